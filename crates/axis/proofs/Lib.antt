@@ -1,0 +1,5 @@
+pub mod Walks
+pub mod Tables
+pub mod Rows
+pub mod Distances
+pub mod Asked

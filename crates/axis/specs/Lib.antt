@@ -1,0 +1,5 @@
+pub mod Meaning
+pub mod Questions
+pub mod Asks
+pub mod Distance
+pub mod Theory
