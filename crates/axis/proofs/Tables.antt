@@ -106,14 +106,22 @@ module _ (lows highs : List ℤ) where
   abbrev bare : Meaning
   bare = record { lows = lows; highs = highs; bounds = [] }
 
+  pub base-self : (i j : ℕ) → i ≡ j → base lows highs i j ≡ pos 0
+  unfolding base
+  base-self i j e = cond-true (eqb i j) _ _ (eq-eqb i j e)
+
+  pub base-over : (i j : ℕ) → ¬ (i ≡ j) → base lows highs i j ≡ at-line highs i -ℤ at-line lows j
+  unfolding base
+  base-over i j n = cond-false (eqb i j) _ _ (ne-eqb i j n)
+
   Cases : ℕ → ℕ → Type 0
   Cases i j = ((i ≡ j) × (base lows highs i j ≡ pos 0)) ⊎ (¬ (i ≡ j) × (base lows highs i j ≡ high bare i -ℤ low bare j))
 
   base-is : (i j : ℕ) → Cases i j
-  unfolding base Cases
+  unfolding Cases
   base-is i j = elim (cases-eq i j) [
-    | inl e ↦ inl (e, cond-true (eqb i j) _ _ (eq-eqb i j e))
-    | inr n ↦ inr (n, cond-false (eqb i j) _ _ (ne-eqb i j n))
+    | inl e ↦ inl (e, base-self i j e)
+    | inr n ↦ inr (n, base-over i j n)
   ]
 
   base-round : (i j k : ℕ) → low bare i ≤ℤ high bare i → low bare j ≤ℤ high bare j → low bare k ≤ℤ high bare k → Cases i j → Cases j k → Cases i k → base lows highs i k ≤ℤ (base lows highs i j +ℤ base lows highs j k)

@@ -1,1 +1,2 @@
+pub mod Open
 mod Standing

@@ -3,8 +3,11 @@ ghost use mathlib.Core.Path.{_≡_};
 ghost use Prim.Native.Nat.{_≤_};
 ghost use lib.ListN.{length};
 ghost use Rattle.axis.specs.Meaning.{lines, low, high};
+ghost use Rattle.axis.specs.Asks.{Named};
+ghost use Rattle.axis.specs.Distance.{base};
 ghost use Rattle.ledger.specs.Means.{means, Names, Admits};
 use crate::Ledger;
+use crate::sums::less;
 use axis::AxisFault;
 use axis::Bound;
 
@@ -29,6 +32,18 @@ impl Ledger {
         ensures { λ r. ⌜ r ≡ high (means (now (self .entry))) line ⌝ }
     {
         if line == 0 { 0 } else { self.highs[line - 1] }
+    }
+
+    // The length from line i to line j over line 0, before any bound stands.
+    pub fn direct(&self, i: usize, j: usize) -> i16
+        requires { ⌜ Named (lines (means (now self))) i j ⌝ }
+        ensures { λ r. ⌜ r ≡ base (means (now (self .entry)) .lows) (means (now (self .entry)) .highs) i j ⌝ }
+    {
+        if i == j {
+            0
+        } else {
+            less(self.high(i), self.low(j))
+        }
     }
 
     // The standing bounds, oldest first.

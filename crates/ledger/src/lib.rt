@@ -7,6 +7,10 @@ use axis::Bound;
 
 mod asks;
 mod changes;
+mod sums;
+
+pub use sums::along;
+pub use sums::lesser;
 
 // Memory is reserved for all that is ever held, so no call fails for want of it.
 #[derive(Drop)]

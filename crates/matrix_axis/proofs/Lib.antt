@@ -1,0 +1,6 @@
+mod Axes
+mod Bounds
+mod Kept
+mod Lines
+mod Mends
+mod Places
