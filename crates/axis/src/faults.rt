@@ -2,6 +2,8 @@
 ghost use mathlib.Core.Path.{_≡_};
 ghost use Rattle.axis.specs.Asks.{number};
 use crate::model::AxisFault;
+use crate::model::AxisFaultDebug;
+use std::error::Error;
 use std::fmt;
 
 impl AxisFault {
@@ -36,3 +38,5 @@ pub impl fmt::Display for AxisFault as AxisFaultDisplay {
         )
     }
 }
+
+pub impl Error for AxisFault as AxisFaultError {}

@@ -10,6 +10,7 @@ mod model;
 mod theory;
 
 pub use faults::AxisFaultDisplay;
+pub use faults::AxisFaultError;
 pub use model::AxisFault;
 pub use model::AxisFaultDebug;
 pub use model::AxisFaultEq;

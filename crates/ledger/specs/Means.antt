@@ -1,15 +1,16 @@
 -- What a ledger means.
 use mathlib.Core.Path.{_≡_}
+use mathlib.Core.List.{[]}
 use Prim.Native.Nat.{ℕ}
 use Rattle.std.specs.Of.Vec.{vec-items}
 use Rattle.std.specs.declared.result.Result.{Result}
 use Rattle.std.specs.declared.result.Result.the-variants.{Ok, Err}
-use Rattle.axis.specs.Meaning.{Meaning, lines}
+use Rattle.axis.specs.Meaning.{Meaning, lines, with-bound}
 use Rattle.axis.specs.Questions.{AllYes, FirstNo}
 use Rattle.axis.specs.Asks.{Named, first-asks}
 use Rattle.axis.specs.declared.model.Bound.{Bound}
 use Rattle.axis.specs.declared.model.AxisFault.{AxisFault}
-use Rattle.axis.specs.declared.model.AxisFault.the-variants.{Line}
+use Rattle.axis.specs.declared.model.AxisFault.the-variants.{Line, NoBound}
 use Rattle.ledger.specs.declared.Ledger.{Ledger}
 
 abbrev pub means : Ledger → Meaning
@@ -24,3 +25,8 @@ Names m p q (Err f) = (¬ (Named (lines m) p q)) × (f ≡ Line)
 abbrev pub Admits : Meaning → Bound → Result Unit AxisFault → Type 0
 Admits m b (Ok u) = AllYes (first-asks 90 m b)
 Admits m b (Err f) = FirstNo (first-asks 90 m b) f
+
+-- which bound was the newest, and what stands without it
+abbrev pub Gone : Meaning → Result Bound AxisFault → Meaning → Type 0
+Gone m (Ok b) after = m ≡ with-bound after b
+Gone m (Err f) after = (m .bounds ≡ []) × (f ≡ NoBound) × (after ≡ m)

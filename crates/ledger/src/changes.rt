@@ -7,8 +7,8 @@ ghost use lib.ListN.{length};
 ghost use Rattle.std.specs.Vec.{made};
 ghost use Rattle.std.specs.Of.Vec.{vec-items, vec-cap};
 ghost use Rattle.axis.specs.Meaning.{new, lines, with-bound};
-ghost use Rattle.axis.specs.Asks.{Reset, Back, Within, InOrder, Ordered};
-ghost use Rattle.ledger.specs.Means.{means};
+ghost use Rattle.axis.specs.Asks.{Reset, Within, InOrder, Ordered};
+ghost use Rattle.ledger.specs.Means.{means, Gone};
 use crate::Ledger;
 use axis::AxisFault;
 use axis::Bound;
@@ -53,12 +53,12 @@ impl Ledger {
         self.bounds.push_reserved(bound);
     }
 
-    // The newest bound is gone.
-    pub fn pop(&mut self) -> Result<(), AxisFault>
-        ensures { λ r. ⌜ Back (means (now (self .entry))) r (means (now (self .exit))) ⌝ }
+    // The newest bound goes.
+    pub fn pop(&mut self) -> Result<Bound, AxisFault>
+        ensures { λ r. ⌜ Gone (means (now (self .entry))) r (means (now (self .exit))) ⌝ }
     {
         match self.bounds.pop() {
-            Some(_) => Ok(()),
+            Some(bound) => Ok(bound),
             None => Err(AxisFault::NoBound),
         }
     }

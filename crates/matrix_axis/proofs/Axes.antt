@@ -1,17 +1,14 @@
 -- What a matrix axis knows from its own fields.
 use mathlib.Core.Path.{_≡_, sym, subst, _∙_}
-use mathlib.Core.Bool.{true, false}
 use mathlib.Core.List.{List}
 use Prim.Native.Nat.{ℕ, _<_}
-use lib.IntN.{ℤ, pos, _+ℤ_}
-use lib.Signed.{_≤ℤ_, _<ℤ_, ltZ}
+use lib.IntN.{ℤ, pos}
 use native.Mathlib.Omega.{arith}
-use Rattle.std.proofs.shelf.Signed.{ints}
 use Rattle.axis.specs.Meaning.{Meaning, new, lines}
 use Rattle.axis.specs.Asks.{Named, Tightest}
 use Rattle.axis.specs.Distance.{distance, base, Right}
 use Rattle.axis.proofs.Tables.{base-self}
-use Rattle.axis.proofs.Distances.{right-tightest}
+use Rattle.axis.proofs.Distances.{right-near, right-tightest}
 use Rattle.ledger.specs.Means.{means}
 use Rattle.ledger.specs.Lengths.{Near}
 use Rattle.ledger.proofs.Open.{ledger-right}
@@ -26,16 +23,11 @@ module _ (a : MatrixAxis) where
   pub axis-closed : Closed (lines (means (a .ledger))) (cell (a .table .cells))
   axis-closed = right-closed (means (a .ledger)) (distance (means (a .ledger))) (a .table .cells) right (a .ledger .paired) (a .ledger .ordered) (a .kept)
 
-  pub axis-tightest : (p q : ℕ) (t : ℤ) → Named (lines (means (a .ledger))) p q → t ≡ cell (a .table .cells) p q → Tightest (means (a .ledger)) p q t
-  axis-tightest p q t h e = subst (Tightest (means (a .ledger)) p q) (sym (e ∙ a .kept p q h)) (right-tightest (means (a .ledger)) (distance (means (a .ledger))) right p q h)
+  pub axis-near : (p q : ℕ) → Named (lines (means (a .ledger))) p q → Near (distance (means (a .ledger)) p q)
+  axis-near p q h = right-near (means (a .ledger)) (distance (means (a .ledger))) right (a .ledger .paired) (a .ledger .ordered) p q (h .0) (h .1)
 
-  -- the test of a bound, d and then the way back t, as the code adds them
-  module _ (p q : ℕ) (d t sum : ℤ) (h : Named (lines (means (a .ledger))) q p) (e : t ≡ cell (a .table .cells) q p) (s : sum ≡ t +ℤ d) where
-    pub axis-closes : ltZ sum (pos 0) ≡ true → (d +ℤ distance (means (a .ledger)) q p) <ℤ pos 0
-    axis-closes l = let k = a .kept q p h in let z : (t +ℤ d) <ℤ pos 0 = grind (arith, ints) in omega (arith, ints)
-
-    pub axis-opens : ltZ sum (pos 0) ≡ false → pos 0 ≤ℤ (d +ℤ distance (means (a .ledger)) q p)
-    axis-opens l = let k = a .kept q p h in let z : pos 0 ≤ℤ (t +ℤ d) = grind (arith, ints) in omega (arith, ints)
+  pub axis-tightest : (p q : ℕ) (t : ℤ) → Named (lines (means (a .ledger))) p q → t ≡ distance (means (a .ledger)) p q → Tightest (means (a .ledger)) p q t
+  axis-tightest p q t h e = subst (Tightest (means (a .ledger)) p q) (sym e) (right-tightest (means (a .ledger)) (distance (means (a .ledger))) right p q h)
 
 -- the table of no lines
 pub kept-new : (m : Meaning) (cells : List ℤ) → m ≡ new → ((k : ℕ) → k < 169 → entry cells k ≡ pos 0) → Kept cells m

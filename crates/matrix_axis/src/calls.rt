@@ -5,7 +5,7 @@ ghost use lib.IntN.{pos, _+ℤ_};
 ghost use lib.Signed.{_≤ℤ_, _<ℤ_};
 ghost use mathlib.Core.Bool.{true, false};
 ghost use Rattle.axis.specs.Meaning.{new, lines};
-ghost use Rattle.axis.specs.Asks.{Within};
+ghost use Rattle.axis.specs.Asks.{Named, Within};
 ghost use Rattle.axis.specs.Distance.{distance};
 ghost use Rattle.ledger.specs.Means.{means};
 use crate::MatrixAxis;
@@ -33,8 +33,15 @@ impl MatrixAxis {
         ensures yes { λ r. ⌜ (r ≡ true → (bound .d +ℤ distance (means (now (self .entry) .ledger)) (bound .q) (bound .p)) <ℤ pos 0) ⌝ }
         ensures no { λ r. ⌜ (r ≡ false → pos 0 ≤ℤ (bound .d +ℤ distance (means (now (self .entry) .ledger)) (bound .q) (bound .p))) ⌝ }
     {
-        let back = self.table.at(bound.q as usize, bound.p as usize);
-        along(back, bound.d) < 0
+        along(self.length(bound.q, bound.p), bound.d) < 0
+    }
+
+    // The table's answer: the shortest length.
+    fn length(&self, p: u8, q: u8) -> i16
+        requires { ⌜ Named (lines (means (now self .ledger))) p q ⌝ }
+        ensures { λ r. ⌜ r ≡ distance (means (now (self .entry) .ledger)) p q ⌝ }
+    {
+        self.table.at(p as usize, q as usize)
     }
 }
 
@@ -65,16 +72,16 @@ pub impl Axis for MatrixAxis as MatrixAxisCalls {
         Ok(())
     }
 
-    // More than the pair that the bound named may loosen.
     fn back(&mut self) -> Result<(), AxisFault> {
-        self.ledger.pop()?;
+        // more than the pair that it named may loosen
+        let _gone = self.ledger.pop()?;
         self.table.rebuild(&self.ledger);
         Ok(())
     }
 
     fn tightest(&self, p: u8, q: u8) -> Result<i16, AxisFault> {
         self.ledger.names(p, q)?;
-        Ok(self.table.at(p as usize, q as usize))
+        Ok(self.length(p, q))
     }
 
     fn count(&self) -> usize {

@@ -8,6 +8,6 @@ use Rattle.matrix_axis.proofs.calls.MatrixAxisCalls.tightest.Needs as need
 
 pub returns : need.returns
 returns c =
-    let fits : SFits w16 (c .at .result) = search needs in
+    let fits : SFits w16 (c .length .result) = search needs in
     let named = c .in-Continue-names .ensures tt in
-    (named, axis-tightest (c .args .self .now) (c .args .p) (c .args .q) _ named (toZ-ofZ w16 _ fits ∙ c .at .ensures))
+    (named, axis-tightest (c .args .self .now) (c .args .p) (c .args .q) _ named (toZ-ofZ w16 _ fits ∙ c .length .ensures))

@@ -1,0 +1,4 @@
+mod Totals
+mod Told
+mod Steps
+mod Ends
