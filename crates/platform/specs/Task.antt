@@ -1,8 +1,13 @@
 -- The worked task: three lines, their ranges and one bound.
 use mathlib.Core.Path.{_≡_}
 use mathlib.Core.List.{List, [], _∷_}
+use Prim.Native.Nat.{ℕ, _≤_}
 use lib.IntN.{ℤ, pos, negℤ}
-use Rattle.axis.specs.Meaning.{Meaning}
+use Rattle.std.specs.declared.result.Result.{Result}
+use Rattle.std.specs.declared.result.Result.the-variants.{Ok, Err}
+use Rattle.axis.specs.Meaning.{Meaning, lines}
+use Rattle.axis.specs.Theory.{EarliestValue, LatestValue}
+use Rattle.axis.specs.declared.model.AxisFault.{AxisFault}
 
 -- three stays of 3, 4 and 2 steps in a span of 7, the third with the first two steps for a window; the first is gone when the second comes
 abbrev pub worked : Meaning
@@ -15,3 +20,7 @@ worked = record {
 -- the earliest and the latest step of each line
 abbrev pub times : List (ℤ × ℤ)
 times = (pos 0, pos 0) ∷ (pos 3, pos 3) ∷ (pos 0, pos 0) ∷ []
+
+abbrev pub Spanned : Meaning → ℕ → Result (ℤ × ℤ) AxisFault → Type 0
+Spanned m r (Ok x) = EarliestValue m r (x .0) × LatestValue m r (x .1)
+Spanned m r (Err f) = ¬ (r ≤ lines m)

@@ -1,4 +1,5 @@
 // Takes one task through both axes and prints each line's earliest and latest step.
+use axis::AxisFaultError;
 use list_axis::ListAxis;
 use list_axis::ListAxisCalls;
 use matrix_axis::MatrixAxis;
