@@ -63,7 +63,7 @@ impl Ledger {
     pub fn names(&self, p: u8, q: u8) -> Result<(), AxisFault>
         ensures { λ r. ⌜ Names (means (now (self .entry))) p q r ⌝ }
     {
-        let n = self.lows.len();
+        let n = self.lines();
         if p as usize > n || q as usize > n {
             return Err(AxisFault::Line);
         }
@@ -78,7 +78,7 @@ impl Ledger {
         if bound.d < -4000 || bound.d > 4000 {
             return Err(AxisFault::Length);
         }
-        if self.bounds.len() >= 90 {
+        if self.count() >= 90 {
             return Err(AxisFault::Full);
         }
         Ok(())

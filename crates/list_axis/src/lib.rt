@@ -6,8 +6,6 @@ use ledger::Ledger;
 mod calls;
 mod lengths;
 mod passes;
-#[cfg(test)]
-mod tests;
 
 pub use calls::ListAxisCalls;
 

@@ -1,0 +1,3 @@
+// Worked examples, on both axes.
+#[cfg(test)]
+mod tests;
