@@ -1,0 +1,3 @@
+pub mod Lie
+pub mod Ordered
+pub mod Laid

@@ -1,0 +1,3 @@
+pub mod Overlaps
+pub mod Order
+pub mod Arranged

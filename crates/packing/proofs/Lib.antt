@@ -1,0 +1,4 @@
+mod Grown
+pub mod Least
+mod Nodes
+mod Picks

@@ -1,0 +1,9 @@
+// Places boxes on two axes without overlap, or tells that no arrangement exists.
+mod moves;
+mod pick;
+mod places;
+mod search;
+
+pub use moves::Standing;
+pub use moves::back_on;
+pub use moves::put_on;
