@@ -1,13 +1,13 @@
--- The list of trials as it is laid out, pair by pair and row by row.
+-- The list of trials as it is laid out, pair by pair and row by row, and as it is cleared.
 use mathlib.Core.Path.{_≡_, refl, sym, ap, _∙_}
 use mathlib.Core.List.{List, [], _∷_, _++_, map}
 use Prim.Native.Nat.{ℕ, suc, _+_, _-_, _≤_, _<_}
 use native.Mathlib.Omega.{arith}
-use lib.ListN.{length, take, set}
-use Rattle.std.proofs.shelf.Lists.{append-assoc, append-nil, length-append, map-append, map-push, take-all, take-more-set}
+use lib.ListN.{length, take, set, replicate}
+use Rattle.std.proofs.shelf.Lists.{append-assoc, append-nil, length-append, map-append, map-push, replicate-more, take-all, take-more-set}
 use Rattle.std.proofs.shelf.Counted.{length-map-counting, map-counting-more}
 use Rattle.stack.specs.declared.elements.Trial.{Trial}
-use Rattle.boxes.specs.Order.{Pair, row, pairs-from, untried}
+use Rattle.boxes.specs.Order.{Pair, row, pairs-from, untried, no-trial}
 
 abbrev with : ℕ → ℕ → Pair
 with i j = record { first = i; second = j }
@@ -58,3 +58,13 @@ row-all ts all at i n h e l =
     let none : pairs-from i (n - i) ≡ [] = ap (pairs-from i) z in
     let full : length ts ≤ at = omega (arith, ap length none) in
     sym (take-all at ts full) ∙ sym (append-nil (take at ts)) ∙ ap (λ k. take at ts ++ map untried k) (sym none) ∙ e
+
+-- one record more is blank
+pub clear-more : (ts : List Trial) (k : ℕ) (t : Trial) → t ≡ no-trial → k < length ts → take k ts ≡ replicate k no-trial → take (k + 1) (set ts k t) ≡ replicate (k + 1) no-trial
+clear-more ts k t b h e = take-more-set ts k t h ∙ ap (λ l. l ++ t ∷ []) e ∙ ap (λ u. replicate k no-trial ++ u ∷ []) b ∙ replicate-more k no-trial
+
+-- and at the end every one
+pub clear-all : (ts : List Trial) (k : ℕ) → take k ts ≡ replicate k no-trial → k ≡ length ts → ts ≡ replicate (length ts) no-trial
+clear-all ts k e h =
+    let full : length ts ≤ k = omega arith in
+    sym (take-all k ts full) ∙ e ∙ ap (λ n. replicate n no-trial) h

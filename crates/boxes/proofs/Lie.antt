@@ -34,15 +34,15 @@ module _ (sizes : List Size) where
   free-word z x y i j hi hj free =
       by-ltZ (x j) (x i +ℤ pos (wide sizes i))
       (λ b. by-ltZ (x i) (x j +ℤ pos (wide sizes j))
-        (λ a. by-ltZ (y j) (y i +ℤ pos (long sizes i))
-          (λ n. by-ltZ (y i) (y j +ℤ pos (long sizes j))
-            (λ f. absurd (free (
-              common (x i) (x j) (wide sizes i) (wide sizes j) (wide-near z i hi .0) (wide-near z j hj .0) b a,
-              common (y i) (y j) (long sizes i) (long sizes j) (long-near z i hi .0) (long-near z j hj .0) n f,
-            )))
-            (λ o. (Farther, o)))
-          (λ o. (Nearer, o)))
-        (λ o. (After, o)))
+      (λ a. by-ltZ (y j) (y i +ℤ pos (long sizes i))
+      (λ n. by-ltZ (y i) (y j +ℤ pos (long sizes j))
+      (λ f. absurd (free (
+        common (x i) (x j) (wide sizes i) (wide sizes j) (wide-near z i hi .0) (wide-near z j hj .0) b a,
+        common (y i) (y j) (long sizes i) (long sizes j) (long-near z i hi .0) (long-near z j hj .0) n f,
+      )))
+      (λ o. (Farther, o)))
+      (λ o. (Nearer, o)))
+      (λ o. (After, o)))
       (λ o. (Before, o))
 
   pub word-free : (x y : ℕ → ℤ) (i j : ℕ) (w : Word) → HoldsWord sizes x y w i j → ¬ (Overlap sizes x y i j)

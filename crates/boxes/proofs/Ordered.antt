@@ -47,7 +47,7 @@ from-has i zero a b ha hab hb = absurd (omega arith)
 from-has i (suc c) a b ha hab hb =
     let row = map (with i) (counting (i + 1) (suc c)) in
     elim (cases-eq i a) [
-      inl e ↦ has-append-left row (pairs-from (i + 1) c) (with a b) (
+      | inl e ↦ has-append-left row (pairs-from (i + 1) c) (with a b) (
         b - (i + 1),
         (let l = length-map-counting (with i) (i + 1) (suc c) in omega arith),
         (λ d. getD-map-counting (with i) (i + 1) (suc c) (b - (i + 1)) b d (omega arith) (omega arith) ∙ ap (λ k. with k b) e),
@@ -64,8 +64,8 @@ from-within i (suc c) n e =
     let row = map (with i) (counting (i + 1) (suc c)) in
     all-append (Within i n) row (pairs-from (i + 1) c)
     (all-from-getD (Within i n) row (with 0 0) (λ k h.
-      let l = length-map-counting (with i) (i + 1) (suc c) in
-      subst (Within i n) (sym (getD-map-counting (with i) (i + 1) (suc c) k (i + 1 + k) (with 0 0) (omega arith) refl)) (omega arith, omega arith, omega arith)))
+    let l = length-map-counting (with i) (i + 1) (suc c) in
+    subst (Within i n) (sym (getD-map-counting (with i) (i + 1) (suc c) k (i + 1 + k) (with 0 0) (omega arith) refl)) (omega arith, omega arith, omega arith)))
     (all-weaker (Within (i + 1) n) (Within i n) (λ p w. (omega arith, w .1, w .2)) (pairs-from (i + 1) c) (from-within (i + 1) c n (omega arith)))
 
 pub order-has : (n i j : ℕ) → 1 ≤ i → i < j → j ≤ n → Has (trial-order n) (record { first = i; second = j })

@@ -2,3 +2,4 @@ mod Grown
 pub mod Least
 mod Nodes
 mod Picks
+mod Starts

@@ -77,9 +77,9 @@ module _ (t p : Meaning) (sizes : List Size) (ts : List Trial) (node : Node t p 
       let n : lines (in-direction t p (entry-of sizes ts k w .direction)) ≡ length sizes = both (entry-of sizes ts k w .direction) in
       let q = ruled-named sizes (getD ts k no-trial .i) (getD ts k no-trial .j) (length sizes) w (a .0 .1) (a .1 .1) in
       ((subst (λ m. entry-of sizes ts k w .bound .p ≤ m) (sym n) (q .0), subst (λ m. entry-of sizes ts k w .bound .q ≤ m) (sym n) (q .1)), ruled-near sizes (node .sized) _ _ (a .0) (a .1) w) where
-    both : (d : Direction) → lines (in-direction t p d) ≡ length sizes
-    both Time = node .timed
-    both Platform = node .placed
+        both : (d : Direction) → lines (in-direction t p d) ≡ length sizes
+        both Time = node .timed
+        both Platform = node .placed
 
   module _ (w : Word) where
     kept : (x y : ℕ → ℤ) → HoldsWord sizes x y w (getD ts k no-trial .i) (getD ts k no-trial .j) → Keeps x y (entry-of sizes ts k w)
@@ -178,9 +178,9 @@ module _ (t p : Meaning) (sizes : List Size) (ts : List Trial) (node : Node t p 
             let l : k < length after = omega (arith, length-map after pair-of, length-map ts pair-of, ap length (r .pairs ∙ pairs-same)) in
             let holds = subst (λ (u : Trial). HoldsTrial sizes x y (u .i) (u .j) (u .word)) at (all-getD (λ u. HoldsTrial sizes x y (u .i) (u .j) (u .word)) after k no-trial l words) in
             r .least x y
-                (grown-timely t p (entry-of sizes ts k w .bound) (entry-of sizes ts k w .direction) x y a (kept x y holds))
-                (grown-placed t p (entry-of sizes ts k w .bound) (entry-of sizes ts k w .direction) x y b (kept x y holds))
-                words;
+            (grown-timely t p (entry-of sizes ts k w .bound) (entry-of sizes ts k w .direction) x y a (kept x y holds))
+            (grown-placed t p (entry-of sizes ts k w .bound) (entry-of sizes ts k w .direction) x y b (kept x y holds))
+            words;
       } where
         none-some : {v : Word} → None ≡ Some v → ⊥
         none-some e = let z : _≡_ {A = ℕ} 0 1 = cc in omega arith

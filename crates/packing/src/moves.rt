@@ -19,7 +19,11 @@ pub enum Standing {
     Impossible,
 }
 
-pub fn put_on<T: Axis, P: Axis>(time: &mut T, platform: &mut P, entry: Entry) -> Result<(), AxisFault>
+pub fn put_on<T: Axis, P: Axis>(
+    time: &mut T,
+    platform: &mut P,
+    entry: Entry,
+) -> Result<(), AxisFault>
     ensures { λ r. ⌜ PutOn (entry .direction) (T·Axis .holds) (P·Axis .holds) (T·Axis .means (now (time .entry))) (P·Axis .means (now (platform .entry))) (entry .bound) r (T·Axis .means (now (time .exit))) (P·Axis .means (now (platform .exit))) ⌝ }
 {
     match entry.direction {
@@ -28,7 +32,11 @@ pub fn put_on<T: Axis, P: Axis>(time: &mut T, platform: &mut P, entry: Entry) ->
     }
 }
 
-pub fn back_on<T: Axis, P: Axis>(time: &mut T, platform: &mut P, direction: Direction) -> Result<(), AxisFault>
+pub fn back_on<T: Axis, P: Axis>(
+    time: &mut T,
+    platform: &mut P,
+    direction: Direction,
+) -> Result<(), AxisFault>
     ensures { λ r. ⌜ BackOn direction (T·Axis .means (now (time .entry))) (P·Axis .means (now (platform .entry))) r (T·Axis .means (now (time .exit))) (P·Axis .means (now (platform .exit))) ⌝ }
 {
     match direction {

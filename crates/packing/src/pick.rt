@@ -48,7 +48,10 @@ fn weigh<A: Axis>(axis: &A, trial: Trial, first: u16, second: u16) -> (u8, bool)
 fn size_at(sizes: &[Size], box_number: u8) -> Size {
     match sizes.get(usize::from(box_number).wrapping_sub(1)) {
         Some(size) => *size,
-        None => Size { steps: 1, metres: 1 },
+        None => Size {
+            steps: 1,
+            metres: 1,
+        },
     }
 }
 
@@ -96,10 +99,22 @@ fn consider(choice: Choice, k: usize, trial: Trial, rank: Rank) -> Choice
     Choice { at: Some(k), rank }
 }
 
-pub fn pick<T: Axis, P: Axis>(time: &T, platform: &P, sizes: &[Size], trials: &[Trial]) -> Option<usize>
+pub fn pick<T: Axis, P: Axis>(
+    time: &T,
+    platform: &P,
+    sizes: &[Size],
+    trials: &[Trial],
+) -> Option<usize>
     ensures { λ r. ⌜ PickedBelow (length (now (trials .entry))) (now (trials .entry)) r ⌝ }
 {
-    let mut choice = Choice { at: None, rank: Rank { class: 0, smaller: 0, larger: 0 } };
+    let mut choice = Choice {
+        at: None,
+        rank: Rank {
+            class: 0,
+            smaller: 0,
+            larger: 0,
+        },
+    };
     for k in 0..trials.len() {
         let trial = trials[k];
         choice = consider(choice, k, trial, rank_of(time, platform, sizes, trial));

@@ -25,13 +25,6 @@ use stack::Trial;
 use stack::Word;
 use stack::elements::TrialBlank;
 
-// The trials whose bounds stand, newest last, and how many were made.
-#[derive(Drop)]
-pub struct Trail<'a> {
-    pub stack: Stack<'a, Trial>,
-    pub tries: u64,
-}
-
 fn side_of(word: Option<Word>) -> Direction
     ensures { λ r. ⌜ r ≡ side word ⌝ }
 {
@@ -56,7 +49,14 @@ fn back_up<T: Axis, P: Axis>(time: &mut T, platform: &mut P, trail: &mut Stack<'
 }
 
 // The bound of the word for trial k, and what is known of it.
-fn weigh_word<T: Axis, P: Axis>(time: &T, platform: &P, sizes: &[Size], trials: &[Trial], k: usize, word: Word) -> (Entry, Standing)
+fn weigh_word<T: Axis, P: Axis>(
+    time: &T,
+    platform: &P,
+    sizes: &[Size],
+    trials: &[Trial],
+    k: usize,
+    word: Word,
+) -> (Entry, Standing)
     requires node { ⌜ Node (T·Axis .means (now time)) (P·Axis .means (now platform)) (now sizes) (now trials) ⌝ }
     requires within { ⌜ k < length (now trials) ⌝ }
     ensures entry { λ r. ⌜ r .0 ≡ entry-of (now (sizes .entry)) (now (trials .entry)) k word ⌝ }
@@ -68,29 +68,49 @@ fn weigh_word<T: Axis, P: Axis>(time: &T, platform: &P, sizes: &[Size], trials: 
 }
 
 // Puts the bound of the word for trial k and notes the trial, or tells that no arrangement has the word.
-fn enter<T: Axis, P: Axis>(time: &mut T, platform: &mut P, sizes: &[Size], trials: &mut [Trial], trail: &mut Trail<'_>, k: usize, word: Word) -> bool
+fn enter<T: Axis, P: Axis>(
+    time: &mut T,
+    platform: &mut P,
+    sizes: &[Size],
+    trials: &mut [Trial],
+    trail: &mut Stack<'_, Trial>,
+    tries: &mut u64,
+    k: usize,
+    word: Word,
+) -> bool
     requires node { ⌜ Node (T·Axis .means (now time)) (P·Axis .means (now platform)) (now sizes) (now trials) ⌝ }
-    requires room { ⌜ Room (T·Axis .holds) (P·Axis .holds) (T·Axis .means (now time)) (P·Axis .means (now platform)) (length (contents (now trail .stack))) (length (memory (now trail .stack))) (now trials) ⌝ }
+    requires room { ⌜ Room (T·Axis .holds) (P·Axis .holds) (T·Axis .means (now time)) (P·Axis .means (now platform)) (length (contents (now trail))) (length (memory (now trail))) (now trials) ⌝ }
     requires open { ⌜ (k < length (now trials)) × (getD (now trials) k no-trial .word ≡ None) ⌝ }
-    ensures after { λ r. ⌜ Entered (T·Axis .holds) (P·Axis .holds) (now (sizes .entry)) (now (trials .entry)) (now (trials .exit)) k word (T·Axis .means (now (time .entry))) (P·Axis .means (now (platform .entry))) (T·Axis .means (now (time .exit))) (P·Axis .means (now (platform .exit))) (contents (now (trail .entry) .stack)) (contents (now (trail .exit) .stack)) (length (memory (now (trail .exit) .stack))) r ⌝ }
-    ensures size { λ _. ⌜ length (memory (now (trail .exit) .stack)) ≡ length (memory (now (trail .entry) .stack)) ⌝ }
+    ensures after { λ r. ⌜ Entered (T·Axis .holds) (P·Axis .holds) (now (sizes .entry)) (now (trials .entry)) (now (trials .exit)) k word (T·Axis .means (now (time .entry))) (P·Axis .means (now (platform .entry))) (T·Axis .means (now (time .exit))) (P·Axis .means (now (platform .exit))) (contents (now (trail .entry))) (contents (now (trail .exit))) (length (memory (now (trail .exit)))) r ⌝ }
+    ensures size { λ _. ⌜ length (memory (now (trail .exit))) ≡ length (memory (now (trail .entry))) ⌝ }
 {
     let (entry, standing) = weigh_word(time, platform, sizes, trials, k, word);
     if let Standing::Impossible = standing {
         return false;
     }
-    trail.tries = trail.tries.saturating_add(1);
+    *tries = tries.saturating_add(1);
     if let Err(_) = put_on(time, platform, entry) {
         return false;
     }
-    let trial = Trial { i: trials[k].i, j: trials[k].j, word: Some(word) };
-    let _ = trail.stack.push(trial);
+    let trial = Trial {
+        i: trials[k].i,
+        j: trials[k].j,
+        word: Some(word),
+    };
+    let _ = trail.push(trial);
     trials[k] = trial;
     true
 }
 
 // Does the word hold of every two placements?
-fn is_implied<T: Axis, P: Axis>(time: &T, platform: &P, sizes: &[Size], trials: &[Trial], k: usize, word: Word) -> bool
+fn is_implied<T: Axis, P: Axis>(
+    time: &T,
+    platform: &P,
+    sizes: &[Size],
+    trials: &[Trial],
+    k: usize,
+    word: Word,
+) -> bool
     requires node { ⌜ Node (T·Axis .means (now time)) (P·Axis .means (now platform)) (now sizes) (now trials) ⌝ }
     requires within { ⌜ k < length (now trials) ⌝ }
     ensures { λ r. ⌜ (r ≡ true → ImpliedWord (T·Axis .means (now (time .entry))) (P·Axis .means (now (platform .entry))) (now (sizes .entry)) (getD (now (trials .entry)) k no-trial .i) (getD (now (trials .entry)) k no-trial .j) (Some word)) ⌝ }
@@ -104,7 +124,13 @@ fn is_implied<T: Axis, P: Axis>(time: &T, platform: &P, sizes: &[Size], trials: 
 }
 
 // A word that holds of every two placements, if there is one.
-fn implied<T: Axis, P: Axis>(time: &T, platform: &P, sizes: &[Size], trials: &[Trial], k: usize) -> Option<Word>
+fn implied<T: Axis, P: Axis>(
+    time: &T,
+    platform: &P,
+    sizes: &[Size],
+    trials: &[Trial],
+    k: usize,
+) -> Option<Word>
     requires node { ⌜ Node (T·Axis .means (now time)) (P·Axis .means (now platform)) (now sizes) (now trials) ⌝ }
     requires within { ⌜ k < length (now trials) ⌝ }
     ensures { λ r. ⌜ ImpliedWord (T·Axis .means (now (time .entry))) (P·Axis .means (now (platform .entry))) (now (sizes .entry)) (getD (now (trials .entry)) k no-trial .i) (getD (now (trials .entry)) k no-trial .j) r ⌝ }
@@ -125,34 +151,61 @@ fn implied<T: Axis, P: Axis>(time: &T, platform: &P, sizes: &[Size], trials: &[T
 }
 
 // A place for every box and a word for every pair that has none yet, or nothing.
-fn descend<T: Axis, P: Axis>(time: &mut T, platform: &mut P, sizes: &[Size], trials: &mut [Trial], places: &mut [Place], trail: &mut Trail<'_>) -> bool
+pub fn descend<T: Axis, P: Axis>(
+    time: &mut T,
+    platform: &mut P,
+    sizes: &[Size],
+    trials: &mut [Trial],
+    places: &mut [Place],
+    trail: &mut Stack<'_, Trial>,
+    tries: &mut u64,
+) -> bool
     requires node { ⌜ Node (T·Axis .means (now time)) (P·Axis .means (now platform)) (now sizes) (now trials) ⌝ }
-    requires room { ⌜ Room (T·Axis .holds) (P·Axis .holds) (T·Axis .means (now time)) (P·Axis .means (now platform)) (length (contents (now trail .stack))) (length (memory (now trail .stack))) (now trials) ⌝ }
+    requires room { ⌜ Room (T·Axis .holds) (P·Axis .holds) (T·Axis .means (now time)) (P·Axis .means (now platform)) (length (contents (now trail))) (length (memory (now trail))) (now trials) ⌝ }
     requires few { ⌜ (length (now sizes) ≤ 12) × (length (now places) ≡ length (now sizes)) ⌝ }
     ensures found { λ r. ⌜ Explored (NoArrangement (T·Axis .means (now (time .entry))) (P·Axis .means (now (platform .entry))) (now (sizes .entry))) (T·Axis .means (now (time .entry))) (P·Axis .means (now (platform .entry))) (now (sizes .entry)) (now (trials .entry)) (now (trials .exit)) (now (places .entry)) (now (places .exit)) r ⌝ }
-    ensures same { λ _. ⌜ Restored (T·Axis .means (now (time .entry))) (P·Axis .means (now (platform .entry))) (T·Axis .means (now (time .exit))) (P·Axis .means (now (platform .exit))) (contents (now (trail .entry) .stack)) (contents (now (trail .exit) .stack)) (length (memory (now (trail .entry) .stack))) (length (memory (now (trail .exit) .stack))) ⌝ }
+    ensures same { λ _. ⌜ Restored (T·Axis .means (now (time .entry))) (P·Axis .means (now (platform .entry))) (T·Axis .means (now (time .exit))) (P·Axis .means (now (platform .exit))) (contents (now (trail .entry))) (contents (now (trail .exit))) (length (memory (now (trail .entry)))) (length (memory (now (trail .exit)))) ⌝ }
 {
     let Some(k) = pick(time, platform, sizes, trials) else {
         place_all(time, platform, places);
         return true;
     };
     match implied(time, platform, sizes, trials, k) {
-        Some(word) => attempt(time, platform, sizes, trials, places, trail, k, word),
-        None => try_words(time, platform, sizes, trials, places, trail, k),
+        Some(word) => attempt(time, platform, sizes, trials, places, trail, tries, k, word),
+        None => try_words(time, platform, sizes, trials, places, trail, tries, k),
     }
 }
 
 // The four words for trial k, one after the other.
-fn try_words<T: Axis, P: Axis>(time: &mut T, platform: &mut P, sizes: &[Size], trials: &mut [Trial], places: &mut [Place], trail: &mut Trail<'_>, k: usize) -> bool
+fn try_words<T: Axis, P: Axis>(
+    time: &mut T,
+    platform: &mut P,
+    sizes: &[Size],
+    trials: &mut [Trial],
+    places: &mut [Place],
+    trail: &mut Stack<'_, Trial>,
+    tries: &mut u64,
+    k: usize,
+) -> bool
     requires node { ⌜ Node (T·Axis .means (now time)) (P·Axis .means (now platform)) (now sizes) (now trials) ⌝ }
-    requires room { ⌜ Room (T·Axis .holds) (P·Axis .holds) (T·Axis .means (now time)) (P·Axis .means (now platform)) (length (contents (now trail .stack))) (length (memory (now trail .stack))) (now trials) ⌝ }
+    requires room { ⌜ Room (T·Axis .holds) (P·Axis .holds) (T·Axis .means (now time)) (P·Axis .means (now platform)) (length (contents (now trail))) (length (memory (now trail))) (now trials) ⌝ }
     requires few { ⌜ (length (now sizes) ≤ 12) × (length (now places) ≡ length (now sizes)) ⌝ }
     requires open { ⌜ (k < length (now trials)) × (getD (now trials) k no-trial .word ≡ None) ⌝ }
     ensures found { λ r. ⌜ Explored (NoArrangement (T·Axis .means (now (time .entry))) (P·Axis .means (now (platform .entry))) (now (sizes .entry))) (T·Axis .means (now (time .entry))) (P·Axis .means (now (platform .entry))) (now (sizes .entry)) (now (trials .entry)) (now (trials .exit)) (now (places .entry)) (now (places .exit)) r ⌝ }
-    ensures same { λ _. ⌜ Restored (T·Axis .means (now (time .entry))) (P·Axis .means (now (platform .entry))) (T·Axis .means (now (time .exit))) (P·Axis .means (now (platform .exit))) (contents (now (trail .entry) .stack)) (contents (now (trail .exit) .stack)) (length (memory (now (trail .entry) .stack))) (length (memory (now (trail .exit) .stack))) ⌝ }
+    ensures same { λ _. ⌜ Restored (T·Axis .means (now (time .entry))) (P·Axis .means (now (platform .entry))) (T·Axis .means (now (time .exit))) (P·Axis .means (now (platform .exit))) (contents (now (trail .entry))) (contents (now (trail .exit))) (length (memory (now (trail .entry)))) (length (memory (now (trail .exit)))) ⌝ }
 {
     for n in 0..4u8 {
-        if attempt(time, platform, sizes, trials, places, trail, k, word_at(n)) {
+        if attempt(
+            time,
+            platform,
+            sizes,
+            trials,
+            places,
+            trail,
+            tries,
+            k,
+            word_at(n),
+        ) {
             return true;
         }
     }
@@ -171,23 +224,33 @@ fn word_at(n: u8) -> Word
 }
 
 // One word for trial k, and what is below it.
-fn attempt<T: Axis, P: Axis>(time: &mut T, platform: &mut P, sizes: &[Size], trials: &mut [Trial], places: &mut [Place], trail: &mut Trail<'_>, k: usize, word: Word) -> bool
+fn attempt<T: Axis, P: Axis>(
+    time: &mut T,
+    platform: &mut P,
+    sizes: &[Size],
+    trials: &mut [Trial],
+    places: &mut [Place],
+    trail: &mut Stack<'_, Trial>,
+    tries: &mut u64,
+    k: usize,
+    word: Word,
+) -> bool
     requires node { ⌜ Node (T·Axis .means (now time)) (P·Axis .means (now platform)) (now sizes) (now trials) ⌝ }
-    requires room { ⌜ Room (T·Axis .holds) (P·Axis .holds) (T·Axis .means (now time)) (P·Axis .means (now platform)) (length (contents (now trail .stack))) (length (memory (now trail .stack))) (now trials) ⌝ }
+    requires room { ⌜ Room (T·Axis .holds) (P·Axis .holds) (T·Axis .means (now time)) (P·Axis .means (now platform)) (length (contents (now trail))) (length (memory (now trail))) (now trials) ⌝ }
     requires few { ⌜ (length (now sizes) ≤ 12) × (length (now places) ≡ length (now sizes)) ⌝ }
     requires open { ⌜ (k < length (now trials)) × (getD (now trials) k no-trial .word ≡ None) ⌝ }
     ensures found { λ r. ⌜ Explored (Refuted (T·Axis .means (now (time .entry))) (P·Axis .means (now (platform .entry))) (now (sizes .entry)) (getD (now (trials .entry)) k no-trial .i) (getD (now (trials .entry)) k no-trial .j) word) (T·Axis .means (now (time .entry))) (P·Axis .means (now (platform .entry))) (now (sizes .entry)) (now (trials .entry)) (now (trials .exit)) (now (places .entry)) (now (places .exit)) r ⌝ }
-    ensures same { λ _. ⌜ Restored (T·Axis .means (now (time .entry))) (P·Axis .means (now (platform .entry))) (T·Axis .means (now (time .exit))) (P·Axis .means (now (platform .exit))) (contents (now (trail .entry) .stack)) (contents (now (trail .exit) .stack)) (length (memory (now (trail .entry) .stack))) (length (memory (now (trail .exit) .stack))) ⌝ }
+    ensures same { λ _. ⌜ Restored (T·Axis .means (now (time .entry))) (P·Axis .means (now (platform .entry))) (T·Axis .means (now (time .exit))) (P·Axis .means (now (platform .exit))) (contents (now (trail .entry))) (contents (now (trail .exit))) (length (memory (now (trail .entry)))) (length (memory (now (trail .exit)))) ⌝ }
 {
     let pair = trials[k];
-    if !enter(time, platform, sizes, trials, trail, k, word) {
+    if !enter(time, platform, sizes, trials, trail, tries, k, word) {
         return false;
     }
-    if descend(time, platform, sizes, trials, places, trail) {
-        back_up(time, platform, &mut trail.stack);
+    if descend(time, platform, sizes, trials, places, trail, tries) {
+        back_up(time, platform, trail);
         return true;
     }
     trials[k] = pair;
-    back_up(time, platform, &mut trail.stack);
+    back_up(time, platform, trail);
     false
 }

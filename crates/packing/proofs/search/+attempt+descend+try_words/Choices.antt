@@ -17,5 +17,5 @@ abbrev pub μ-descend : given.MeasureT-descend
 abbrev pub Inv-try-words-loop-n : given.InvT-try-words-loop-n
 Inv-try-words-loop-n g l =
     (l .trials ≡ l .entry .trials) × (l .places ≡ l .entry .places)
-    × Restored (g .T·Axis .means (l .entry .time)) (g .P·Axis .means (l .entry .platform)) (g .T·Axis .means (l .time)) (g .P·Axis .means (l .platform)) (contents (l .entry .trail .stack)) (contents (l .trail .stack)) (length (memory (l .entry .trail .stack))) (length (memory (l .trail .stack)))
+    × Restored (g .T·Axis .means (l .entry .time)) (g .P·Axis .means (l .entry .platform)) (g .T·Axis .means (l .time)) (g .P·Axis .means (l .platform)) (contents (l .entry .trail)) (contents (l .trail)) (length (memory (l .entry .trail))) (length (memory (l .trail)))
     × ((m : ℕ) → m < l .n → Refuted (g .T·Axis .means (l .entry .time)) (g .P·Axis .means (l .entry .platform)) (l .sizes) (getD (l .entry .trials) (l .k) no-trial .i) (getD (l .entry .trials) (l .k) no-trial .j) (nth-word m))

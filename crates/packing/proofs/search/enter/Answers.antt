@@ -20,7 +20,7 @@ returns-in-Err g c =
 pub returns : need.returns
 returns g c =
     let ts = c .args .trials .now in
-    let s = c .args .trail .now .stack in
+    let s = c .args .trail .now in
     let some = open-some ts (c .args .k) (c .pre .open .0) (c .pre .open .1) in
     let space : length (contents s) < length (memory s) = omega (arith, c .pre .room .on-trail) in
     let pushed = pushed-on s (c .push .last .self) _ (c .push .result) (s .ok) space (c .push .ensures .after) in
