@@ -13,11 +13,14 @@ use native.Mathlib.Omega.{arith}
 use Rattle.std.proofs.shelf.Signed.{ints, by-ltZ}
 use Rattle.std.proofs.shelf.Tests.{and-parts, and-from}
 use Rattle.std.proofs.shelf.Elements.{has-push-cases, all-has-itself, all-weaker}
+use Rattle.std.specs.declared.result.Result.{Result}
+use Rattle.std.specs.declared.result.Result.the-variants.{Ok, Err}
 use Rattle.axis.specs.declared.model.Bound.{Bound}
+use Rattle.axis.specs.declared.model.AxisFault.{AxisFault}
 use Rattle.axis.specs.Meaning.{Meaning, with-bound, lines, at-line, low, high, Placement, Remains, Largest, Earliest, Shortest, bound, down, up}
-use Rattle.axis.specs.Asks.{Paired, InOrder, Ordered, Named, Within, AllWithin, Valid, Tightest}
+use Rattle.axis.specs.Asks.{Paired, InOrder, Ordered, Named, Within, AllWithin, Valid, Tightest, Tight}
 use Rattle.axis.specs.Distance.{Table, base, mend, mended, distance, open-from, Open, Right}
-use Rattle.axis.specs.Theory.{Distances, DistancesHold, EarliestValue}
+use Rattle.axis.specs.Theory.{Distances, DistancesHold, EarliestValue, LatestValue, ReachOf}
 use Rattle.axis.proofs.Walks.{walk-kept, ring-refutes}
 use Rattle.axis.proofs.Tables.{right-base, right-mend, right-ring, right-shortest, right-largest, right-earliest}
 
@@ -172,15 +175,30 @@ open-parts t (b ∷ bs) cs o =
 pub open-next : (t : Table) (bs : List Bound) (b : Bound) (cs : List Bound) → open-from t (bs ++ b ∷ cs) ≡ true → pos 0 ≤ℤ (b .d +ℤ mended t bs (b .q) (b .p))
 open-next t bs b cs o = open-head (mended t bs) b cs (open-parts t bs (b ∷ cs) o .1) .0
 
-pub largest-near : (most : ℕ) (m : Meaning) → Valid most m → (p q : ℕ) (t : ℤ) → Named (lines m) p q → Largest m p q t → (negℤ (pos 2880) ≤ℤ t) × (t ≤ℤ pos 2880)
+largest-near : (most : ℕ) (m : Meaning) → Valid most m → (p q : ℕ) (t : ℤ) → Named (lines m) p q → Largest m p q t → (negℤ (pos 2880) ≤ℤ t) × (t ≤ℤ pos 2880)
 largest-near most m v p q t h l =
     let r = valid-right most m v in
     let n = right-near m (distance m) r (v .paired) (v .ordered) p q (h .0) (h .1) in
     let e = largest-one m p q t (distance m p q) l (right-largest m (distance m) r p q (h .0) (h .1)) in
     (omega (arith, ints), omega (arith, ints))
 
-pub earliest-value : (m : Meaning) (r : ℕ) (t : ℤ) → r ≤ lines m → Largest m 0 r t → EarliestValue m r (negℤ t)
+latest-value : (m : Meaning) (r : ℕ) (t : ℤ) → Largest m r 0 t → LatestValue m r t
+latest-value m r t l = record {
+  greatest = λ v w. let a = l .most v w in let z = w .below 0 (omega arith) in omega (arith, ints);
+  had = (l .had .0, (l .had .1 .0, let z = l .had .1 .0 .below 0 (omega arith) in let u = l .had .1 .0 .above 0 (omega arith) in omega (arith, ints, l .had .1 .1)));
+}
+
+earliest-value : (m : Meaning) (r : ℕ) (t : ℤ) → r ≤ lines m → Largest m 0 r t → EarliestValue m r (negℤ t)
 earliest-value m r t h l = record {
   least = λ v w. let a = l .most v w in let z = w .above 0 (omega arith) in omega (arith, ints);
   had = (l .had .0, (l .had .1 .0, let z = l .had .1 .0 .below 0 (omega arith) in let u = l .had .1 .0 .above 0 (omega arith) in omega (arith, ints, l .had .1 .1)));
 }
+
+pub reach-of : (most : ℕ) (m : Meaning) → Valid most m → (p q : ℕ) (r : Result ℤ AxisFault) → Tight m p q r → ReachOf m p q r
+reach-of most m v p q (Ok t) h = record {
+  named = h .0;
+  near = largest-near most m v p q t (h .0) (h .1 .largest);
+  earliest = λ e. earliest-value m q t (h .0 .1) (subst (λ i. Largest m i q t) e (h .1 .largest));
+  latest = λ e. latest-value m p t (subst (λ i. Largest m p i t) e (h .1 .largest));
+}
+reach-of most m v p q (Err f) h = h

@@ -48,3 +48,14 @@ EarliestOf m r (Err f) = (¬ (r ≤ lines m)) × (f ≡ Line)
 abbrev pub LatestOf : Meaning → ℕ → Result ℤ AxisFault → Type 0
 LatestOf m r (Ok x) = (r ≤ lines m) × LatestValue m r x
 LatestOf m r (Err f) = (¬ (r ≤ lines m)) × (f ≡ Line)
+
+-- what the largest difference tells where one of the lines is line 0
+pub record Reach (m : Meaning) (p q : ℕ) (t : ℤ) : Type 0 where
+  pub named : Named (lines m) p q
+  pub near : (negℤ (pos 2880) ≤ℤ t) × (t ≤ℤ pos 2880)
+  pub earliest : p ≡ 0 → EarliestValue m q (negℤ t)
+  pub latest : q ≡ 0 → LatestValue m p t
+
+abbrev pub ReachOf : Meaning → ℕ → ℕ → Result ℤ AxisFault → Type 0
+ReachOf m p q (Ok t) = Reach m p q t
+ReachOf m p q (Err f) = (¬ (Named (lines m) p q)) × (f ≡ Line)

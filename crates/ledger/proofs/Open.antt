@@ -14,10 +14,10 @@ use Rattle.axis.specs.Questions.{AllYes, FirstNo}
 use Rattle.axis.specs.Asks.{Valid, Reset, Asked, first-asks, put-asks}
 use Rattle.axis.specs.Distance.{Open, Right, distance, base}
 use Rattle.axis.proofs.Tables.{right-earliest}
-use Rattle.axis.proofs.Distances.{distance-right, right-remains, right-refuses, open-push, open-parts}
+use Rattle.axis.proofs.Distances.{distance-right, right-remains, right-refuses, open-push}
 use Rattle.axis.proofs.Asked.{first-no-after, all-yes-append}
 use Rattle.ledger.specs.declared.Ledger.{Ledger}
-use Rattle.ledger.specs.Means.{means, Gone}
+use Rattle.ledger.specs.Means.{means}
 
 module _ (l : Ledger) (o : Open (means l)) where
   pub ledger-right : Right (means l) (distance (means l))
@@ -46,10 +46,6 @@ module _ (l : Ledger) (o : Open (means l)) where
 
       pub open-put : (after : Meaning) → after ≡ with-bound (means l) b → Open after
       open-put after e = subst Open (sym e) (open-push (base (means l .lows) (means l .highs)) (means l .bounds) b o h)
-
-pub open-gone : (m after : Meaning) (r : Result Bound AxisFault) → Gone m r after → Open m → Open after
-open-gone m after (Ok b) e o = open-parts (base (after .lows) (after .highs)) (after .bounds) (b ∷ []) (subst Open e o) .0
-open-gone m after (Err f) h o = subst Open (sym (h .2)) o
 
 pub open-reset : (m after : Meaning) (lows highs : List ℤ) (r : Result Unit AxisFault) → Reset m lows highs r after → Open m → Open after
 open-reset m after lows highs (Ok u) h o = subst Open (sym (h .1)) refl

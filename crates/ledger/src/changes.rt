@@ -8,6 +8,7 @@ ghost use Rattle.std.specs.Vec.{made};
 ghost use Rattle.std.specs.Of.Vec.{vec-items, vec-cap};
 ghost use Rattle.axis.specs.Meaning.{new, lines, with-bound};
 ghost use Rattle.axis.specs.Asks.{Reset, Within, InOrder, Ordered};
+ghost use Rattle.axis.specs.Distance.{Open};
 ghost use Rattle.ledger.specs.Means.{means, Gone};
 use crate::Ledger;
 use axis::AxisFault;
@@ -55,7 +56,8 @@ impl Ledger {
 
     // The newest bound goes.
     pub fn pop(&mut self) -> Result<Bound, AxisFault>
-        ensures { λ r. ⌜ Gone (means (now (self .entry))) r (means (now (self .exit))) ⌝ }
+        ensures after { λ r. ⌜ Gone (means (now (self .entry))) r (means (now (self .exit))) ⌝ }
+        ensures opens { λ r. ⌜ (Open (means (now (self .entry))) → Open (means (now (self .exit)))) ⌝ }
     {
         match self.bounds.pop() {
             Some(bound) => Ok(bound),

@@ -9,7 +9,14 @@ use lib.Signed.{_≤ℤ_}
 use Rattle.std.specs.shelf.Lists.{Has}
 use Rattle.matrix_axis.specs.Cells.{entry}
 
--- after: the list with line r on it, unless the way is no shorter than the known one
+-- after: the list with line r on it
+pub record Noted (before : List ℕ) (r : ℕ) (after : List ℕ) : Type 0 where
+  pub stays : (x : ℕ) → Has before x → Has after x
+  pub comes : (x : ℕ) → Has after x → Has before x ⊎ (r ≡ x)
+  pub listed : Has after r
+  pub few : length after ≤ length before + 1
+
+-- the same, unless the way is no shorter than the known one
 pub record Offered (before : List ℕ) (r : ℕ) (way known : ℤ) (after : List ℕ) : Type 0 where
   pub stays : (x : ℕ) → Has before x → Has after x
   pub comes : (x : ℕ) → Has after x → Has before x ⊎ (r ≡ x)

@@ -5,8 +5,9 @@ ghost use lib.IntN.{pos, _+ℤ_};
 ghost use lib.Signed.{_≤ℤ_, _<ℤ_};
 ghost use mathlib.Core.Bool.{true, false};
 ghost use Rattle.axis.specs.Meaning.{new, lines};
-ghost use Rattle.axis.specs.Asks.{Named, Within};
+ghost use Rattle.axis.specs.Asks.{Named, Within, Tightest};
 ghost use Rattle.axis.specs.Distance.{distance};
+ghost use Rattle.ledger.specs.Lengths.{Near};
 ghost use Rattle.ledger.specs.Means.{means};
 use crate::MatrixAxis;
 use crate::table::Table;
@@ -33,7 +34,17 @@ impl MatrixAxis {
         ensures yes { λ r. ⌜ (r ≡ true → (bound .d +ℤ distance (means (now (self .entry) .ledger)) (bound .q) (bound .p)) <ℤ pos 0) ⌝ }
         ensures no { λ r. ⌜ (r ≡ false → pos 0 ≤ℤ (bound .d +ℤ distance (means (now (self .entry) .ledger)) (bound .q) (bound .p))) ⌝ }
     {
-        along(self.length(bound.q, bound.p), bound.d) < 0
+        along(self.told(bound.q, bound.p), bound.d) < 0
+    }
+
+    // What the table tells of two lines.
+    fn told(&self, p: u8, q: u8) -> i16
+        requires { ⌜ Named (lines (means (now self .ledger))) p q ⌝ }
+        ensures value { λ r. ⌜ r ≡ distance (means (now (self .entry) .ledger)) p q ⌝ }
+        ensures near { λ r. ⌜ Near r ⌝ }
+        ensures tightest { λ r. ⌜ Tightest (means (now (self .entry) .ledger)) p q r ⌝ }
+    {
+        self.length(p, q)
     }
 
     // The table's answer: the shortest length.
@@ -81,7 +92,7 @@ pub impl Axis for MatrixAxis as MatrixAxisCalls {
 
     fn tightest(&self, p: u8, q: u8) -> Result<i16, AxisFault> {
         self.ledger.names(p, q)?;
-        Ok(self.length(p, q))
+        Ok(self.told(p, q))
     }
 
     fn count(&self) -> usize {

@@ -7,7 +7,7 @@ ghost use Rattle.stack.specs.Stacks.{contents, memory, loan};
 ghost use Rattle.axis.specs.Asks.{InReach};
 ghost use Rattle.ledger.specs.Lengths.{Near};
 ghost use Rattle.matrix_axis.specs.Cells.{entry};
-ghost use Rattle.matrix_axis.specs.Lists.{Offered, Listed};
+ghost use Rattle.matrix_axis.specs.Lists.{Noted, Offered, Listed};
 use ledger::along;
 use stack::Stack;
 use stack::elements::LineBlank;
@@ -20,8 +20,17 @@ fn offer(list: &mut Stack<'_, u8>, line: u8, way: i16, known: i16)
     ensures same { λ _. ⌜ loan (now (list .exit)) ≡ loan (now (list .entry)) ⌝ }
 {
     if way < known {
-        let _ = list.push(line);
+        note(list, line);
     }
+}
+
+fn note(list: &mut Stack<'_, u8>, line: u8)
+    requires { ⌜ length (contents (now list)) < length (memory (now list)) ⌝ }
+    ensures after { λ _. ⌜ Noted (contents (now (list .entry))) line (contents (now (list .exit))) ⌝ }
+    ensures size { λ _. ⌜ length (memory (now (list .exit))) ≡ length (memory (now (list .entry))) ⌝ }
+    ensures same { λ _. ⌜ loan (now (list .exit)) ≡ loan (now (list .entry)) ⌝ }
+{
+    let _ = list.push(line);
 }
 
 // Lists the lines 0 to n whose way and then d is shorter than the one known.

@@ -14,12 +14,9 @@ use Rattle.std.specs.declared.option.Option.{Option}
 use Rattle.std.specs.declared.option.Option.the-variants.{Some, None}
 use Rattle.std.specs.declared.result.Result.{Result}
 use Rattle.std.specs.declared.result.Result.the-variants.{Ok, Err}
-use Rattle.std.proofs.shelf.Lists.{length-set, length-map, getD-map, getD-set-same, getD-set-other, set-set, set-getD, map-set, length-take-le, length-push, same-from-push}
+use Rattle.std.proofs.shelf.Lists.{length-set, length-map, getD-map, getD-set-same, getD-set-other, set-set, set-getD, map-set, length-push, same-from-push}
 use Rattle.std.proofs.shelf.Tests.{cases-eq, false≢true}
 use Rattle.std.proofs.shelf.Elements.{has-getD, has-push, has-append-left, all-getD, all-set, all-weaker, all-from-getD}
-use Rattle.stack.specs.declared.Stack.{Stack}
-use Rattle.stack.specs.declared.fault.StackFault.{StackFault}
-use Rattle.stack.specs.Stacks.{contents, memory, Pushed}
 use Rattle.stack.specs.declared.elements.Word.{Word}
 use Rattle.stack.specs.declared.elements.Word.the-variants.{Before, After, Nearer, Farther}
 use Rattle.stack.specs.declared.elements.Trial.{Trial}
@@ -267,11 +264,6 @@ reached-all t p sizes ts places node all size et ep = record {
   holds : (i j : ℕ) (o : Option Word) → isSome o ≡ true → StandsWord t p sizes i j o → HoldsTrial sizes (step-of places) (metre-of places) i j o
   holds i j None some s = absurd (false≢true some)
   holds i j (Some w) some s = keeps-word sizes (step-of places) (metre-of places) i j w (keeps (ruled sizes i j w .direction) (ruled sizes i j w .bound) s)
-
--- the trail has space for one more
-pub pushed-on : (s u : Stack Trial) (x : Trial) (r : Result Unit StackFault) → s .len ≤ length (memory s) → length (contents s) < length (memory s) → Pushed s x u r → (contents u ≡ contents s ++ x ∷ []) × (length (memory u) ≡ length (memory s))
-pushed-on s u x (Ok _) fits space h = (h .items, ap length (h .places) ∙ length-set (memory s) (s .len) x)
-pushed-on s u x (Err e) fits space h = let z = length-take-le (s .len) (memory s) fits in let k = h .0 in absurd (omega arith)
 
 -- an implied word that no arrangement has leaves none
 pub implied-only : (t p : Meaning) (sizes : List Size) (i j : ℕ) (w : Word) (before after : List Trial) (old new : List Place) (r : Bool)

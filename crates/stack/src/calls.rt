@@ -4,6 +4,7 @@ use crate::Stack;
 use crate::StackFault;
 ghost use denote.Ref.{name};
 ghost use lib.ListN.{getD, length, set};
+ghost use mathlib.Core.List.{[], _∷_, _++_};
 ghost use mathlib.Core.Path.{_≡_};
 ghost use Prim.Native.Nat.{_+_, _<_};
 ghost use Rattle.stack.specs.Stacks.{contents, Fresh, loan, memory, Popped, Pushed};
@@ -19,6 +20,8 @@ impl<'a, E: Blank + Copy> Stack<'a, E> {
 
     pub fn push(&mut self, x: E) -> Result<(), StackFault>
         ensures after { λ r. ⌜ Pushed (now (self .entry)) x (now (self .exit)) r ⌝ }
+        ensures succeeds { λ _. ⌜ (length (contents (now (self .entry))) < length (memory (now (self .entry))) → contents (now (self .exit)) ≡ contents (now (self .entry)) ++ x ∷ []) ⌝ }
+        ensures size { λ _. ⌜ length (memory (now (self .exit))) ≡ length (memory (now (self .entry))) ⌝ }
         ensures same { λ _. ⌜ loan (now (self .exit)) ≡ loan (now (self .entry)) ⌝ }
     {
         if self.len >= self.slots.len() {
@@ -31,6 +34,7 @@ impl<'a, E: Blank + Copy> Stack<'a, E> {
     // The slot that the newest element leaves is blanked.
     pub fn pop(&mut self) -> Result<E, StackFault>
         ensures after { λ r. ⌜ Popped nothing (now (self .entry)) (now (self .exit)) r ⌝ }
+        ensures size { λ _. ⌜ length (memory (now (self .exit))) ≡ length (memory (now (self .entry))) ⌝ }
         ensures same { λ _. ⌜ loan (now (self .exit)) ≡ loan (now (self .entry)) ⌝ }
     {
         if self.len == 0 {

@@ -3,7 +3,7 @@ use Prim.Native.Nat.{_<_}
 use native.Mathlib.Omega.{arith}
 use lib.ListN.{length}
 use Rattle.stack.specs.Stacks.{contents, memory}
-use Rattle.packing.proofs.Nodes.{open-some, put-refuted, put-grown, pushed-on, entered}
+use Rattle.packing.proofs.Nodes.{open-some, put-refuted, put-grown, entered}
 use Rattle.packing.proofs.search.enter.Needs as need
 
 pub returns-in-Err : need.returns-in-Err
@@ -23,9 +23,8 @@ returns g c =
     let s = c .args .trail .now in
     let some = open-some ts (c .args .k) (c .pre .open .0) (c .pre .open .1) in
     let space : length (contents s) < length (memory s) = omega (arith, c .pre .room .on-trail) in
-    let pushed = pushed-on s (c .push .last .self) _ (c .push .result) (s .ok) space (c .push .ensures .after) in
     let grown = put-grown _ _ (c .args .sizes .now) ts (c .pre .node) (c .args .k) (c .pre .open .0) (c .args .word) (c .weigh-word-standing .result .0) (c .weigh-word-standing .ensures .entry) _ _ _ _ (c .in-rest-put-on .field-0) (c .in-rest-put-on .ensures tt) in
     record {
-      after = entered _ _ (c .args .sizes .now) ts (c .pre .node) (c .args .k) (c .pre .open .0) (c .args .word) (c .pre .open .1) _ _ _ _ _ (contents s) _ (length (memory s)) _ (c .pre .room) (grown .0) (grown .1) refl (pushed .0) (pushed .1);
-      size = pushed .1;
+      after = entered _ _ (c .args .sizes .now) ts (c .pre .node) (c .args .k) (c .pre .open .0) (c .args .word) (c .pre .open .1) _ _ _ _ _ (contents s) _ (length (memory s)) _ (c .pre .room) (grown .0) (grown .1) refl (c .push .ensures .succeeds space) (c .push .ensures .size);
+      size = c .push .ensures .size;
     }
