@@ -26,11 +26,8 @@ use Rattle.packing.specs.declared.moves.Standing.{Standing}
 use Rattle.packing.specs.declared.moves.Standing.the-variants.{Implied, Possible, Impossible}
 use Rattle.packing.specs.Moves.{BackOn}
 use Rattle.boxes.specs.Overlaps.{Sized, ruled, HoldsWord, in-direction}
-use Rattle.boxes.specs.Order.{trial-order, pair-of}
+use Rattle.boxes.specs.Order.{trial-order, pair-of, no-trial}
 use Rattle.boxes.specs.Arranged.{step-of, metre-of, Arrangement, NoArrangement, KeepsWords}
-
-abbrev pub no-trial : Trial
-no-trial = record { i = 0; j = 0; word = None }
 
 -- how many trials have no word yet
 abbrev pub open-one : Option Word → ℕ

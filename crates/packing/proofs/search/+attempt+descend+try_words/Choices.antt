@@ -2,7 +2,8 @@ use mathlib.Core.Path.{_≡_}
 use Prim.Native.Nat.{ℕ, _+_, _*_, _<_}
 use lib.ListN.{length, getD}
 use Rattle.stack.specs.Stacks.{contents, memory}
-use Rattle.packing.specs.Search.{no-trial, open-count, nth-word, Refuted, Restored}
+use Rattle.boxes.specs.Order.{no-trial}
+use Rattle.packing.specs.Search.{open-count, nth-word, Refuted, Restored}
 use Rattle.packing.proofs.search.+attempt+descend+try_words.Given as given
 
 abbrev pub μ-attempt : given.MeasureT-attempt
