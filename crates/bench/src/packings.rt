@@ -30,14 +30,14 @@ pub struct Packing {
     pub metres: Ranges,
 }
 
-// A step or a metre as an axis has it; none of 2880 or more is of use.
+// A step or a metre as an axis has it; every axis refuses those past 2880.
 fn on_axis(place: u16) -> i16
     ensures { λ r. ⌜ r ≡ on-axis place ⌝ }
 {
     place.min(2881) as i16
 }
 
-// The last place from which so much still ends by `end`; where it does not fit, no place.
+// The last place from which the extent still ends by `end`; -1 where it does not fit.
 fn last_place(end: u16, extent: u16) -> i16
     ensures { λ r. ⌜ r ≡ last-place end extent ⌝ }
 {
