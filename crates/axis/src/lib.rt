@@ -1,4 +1,6 @@
 // One direction of a platform sheet: lines with ranges, and bounds on their differences.
+#![tactic(auto)]
+
 ghost use Rattle.std.specs.Prelude.{◌≡◌, ℕ, ◌≤◌, length};
 ghost use Rattle.axis.specs.Meaning.{Meaning};
 ghost use Rattle.axis.specs.Asks.{Put, Back, Reset, Tight, Valid};

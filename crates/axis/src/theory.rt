@@ -7,7 +7,7 @@ use crate::model::AxisFault;
 
 // The least value that the line has in any placement.
 pub fn earliest<A: Axis>(axis: &A, line: u8) -> Result<i16, AxisFault>
-    ensures { EarliestOf (means axis.now) line result }
+    ensures { EarliestOf (A.means axis.now) line result }
 {
     let reach = reach(axis, 0, line)?;
     Ok(negated(reach))
@@ -22,14 +22,14 @@ fn negated(length: i16) -> i16
 
 // The largest difference, and what it tells of a line less line 0, and of line 0 less a line.
 fn reach<A: Axis>(axis: &A, p: u8, q: u8) -> Result<i16, AxisFault>
-    ensures { ReachOf (means axis.now) p q result }
+    ensures { ReachOf (A.means axis.now) p q result }
 {
     axis.tightest(p, q)
 }
 
 // The greatest value that the line has in any placement.
 pub fn latest<A: Axis>(axis: &A, line: u8) -> Result<i16, AxisFault>
-    ensures { LatestOf (means axis.now) line result }
+    ensures { LatestOf (A.means axis.now) line result }
 {
     reach(axis, line, 0)
 }

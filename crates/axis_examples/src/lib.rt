@@ -1,3 +1,5 @@
 // Worked examples, on both axes.
+#![tactic(auto)]
+
 #[cfg(test)]
 mod tests;

@@ -29,7 +29,7 @@ fn all_sized(sizes: &[Size]) -> bool
 
 // The lines of the ranges, and no bounds.
 fn reset<A: Axis>(axis: &mut A, ranges: &Ranges) -> Result<(), AxisFault>
-    ensures after { OnOk result (means axis.new ≡ axis_of ranges.now) }
+    ensures after { OnOk result (A.means axis.new ≡ axis_of ranges.now) }
     ensures few { OnOk result (vec_len ranges.now.lows ≤ 12) }
 {
     axis.reset(ranges.lows.as_slice(), ranges.highs.as_slice())

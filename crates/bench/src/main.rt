@@ -1,4 +1,6 @@
 // Prints, for a fixed list of packings, plan or none and how many words were tried; with the argument `time` the seconds too.
+#![tactic(auto)]
+
 use bench::Bench;
 use std::{env, io};
 

@@ -1,4 +1,6 @@
 // Boxes on two axes, steps by metres: when two overlap, the four words for how they lie, and the order of trials.
+#![tactic(auto)]
+
 mod model;
 mod order;
 mod words;

@@ -1,4 +1,6 @@
 // Why a sheet or an image is refused: the axis's fault inside the sheet's, and that inside the image's.
+#![tactic(auto)]
+
 mod model;
 mod numbers;
 mod words;

@@ -1,4 +1,6 @@
 // A sheet as bytes, in a lent buffer.
+#![tactic(auto)]
+
 mod fields;
 mod writer;
 

@@ -1,3 +1,5 @@
 // The worked image, byte for byte.
+#![tactic(auto)]
+
 #[cfg(test)]
 mod tests;

@@ -1,4 +1,6 @@
 // What a sheet keeps of its stays and entries, and the journal that tells what a list of calls has left standing.
+#![tactic(auto)]
+
 mod asks;
 mod entries;
 mod model;

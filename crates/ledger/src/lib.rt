@@ -1,4 +1,6 @@
 // The lines and the standing bounds of an axis, with the questions that are answered from them alone: what every axis keeps.
+#![tactic(auto)]
+
 ghost use Rattle.std.specs.Prelude.{◌≤◌, length, vec_capacity};
 ghost use Rattle.axis.specs.Asks.{Paired, Ordered, AllWithin};
 

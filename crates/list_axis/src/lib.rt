@@ -1,4 +1,6 @@
 // The list axis keeps the bounds alone, no table, and works lengths out when asked.
+#![tactic(auto)]
+
 ghost use Rattle.axis.specs.Distance.{Open};
 ghost use Rattle.ledger.specs.Means.{means};
 

@@ -1,4 +1,6 @@
 // The matrix axis keeps all shortest lengths: it answers by one look, and mends them after each bound.
+#![tactic(auto)]
+
 ghost use Rattle.axis.specs.Distance.{Open};
 ghost use Rattle.ledger.specs.Means.{means};
 ghost use Rattle.matrix_axis.specs.Cells.{Kept};

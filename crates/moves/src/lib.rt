@@ -1,4 +1,6 @@
 // Bounds put on one of two axes, taken back and judged, and the least places of boxes on both.
+#![tactic(auto)]
+
 mod moves;
 mod places;
 

@@ -45,7 +45,7 @@ pub fn back_on<T: Axis, P: Axis>(
 
 // The largest difference, where both lines are there.
 pub fn reach<A: Axis>(axis: &A, p: u8, q: u8) -> i16
-    ensures { Named (lines (means axis.now)) p q → Largest (means axis.now) p q result }
+    ensures { Named (lines (A.means axis.now)) p q → Largest (A.means axis.now) p q result }
 {
     match axis.tightest(p, q) {
         Ok(length) => length,
@@ -55,16 +55,16 @@ pub fn reach<A: Axis>(axis: &A, p: u8, q: u8) -> i16
 
 // The largest difference that the bound speaks of: if it is at most d, every placement keeps the bound.
 fn way<A: Axis>(axis: &A, bound: Bound) -> i16
-    requires { Within (lines (means axis.now)) bound }
-    ensures { result ≤ℤ bound.d → Told (means axis.now) bound Implied }
+    requires { Within (lines (A.means axis.now)) bound }
+    ensures { result ≤ℤ bound.d → Told (A.means axis.now) bound Implied }
 {
     reach(axis, bound.p, bound.q)
 }
 
 // The largest the other way round: if it is less than -d, none does.
 fn way_back<A: Axis>(axis: &A, bound: Bound) -> i16
-    requires { Within (lines (means axis.now)) bound }
-    ensures { result <ℤ neg_ℤ bound.d → Told (means axis.now) bound Impossible }
+    requires { Within (lines (A.means axis.now)) bound }
+    ensures { result <ℤ neg_ℤ bound.d → Told (A.means axis.now) bound Impossible }
 {
     reach(axis, bound.q, bound.p)
 }
@@ -77,8 +77,8 @@ fn negated(d: i16) -> i16
 }
 
 fn judge<A: Axis>(axis: &A, bound: Bound) -> Standing
-    requires { Within (lines (means axis.now)) bound }
-    ensures { Told (means axis.now) bound result }
+    requires { Within (lines (A.means axis.now)) bound }
+    ensures { Told (A.means axis.now) bound result }
 {
     if way_back(axis, bound) < negated(bound.d) {
         return Standing::Impossible;

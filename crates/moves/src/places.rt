@@ -10,8 +10,8 @@ use boxes::Place;
 
 // The earliest value of a line that is there; it is never below 0.
 fn least<A: Axis>(axis: &A, line: u8) -> u16
-    requires { line ≤ lines (means axis.now) }
-    ensures { EarliestValue (means axis.now) line (pos result) }
+    requires { line ≤ lines (A.means axis.now) }
+    ensures { EarliestValue (A.means axis.now) line (pos result) }
 {
     match earliest(axis, line) {
         Ok(value) => value as u16,

@@ -1,4 +1,6 @@
 // Places boxes on two axes without overlap, or tells that no arrangement exists.
+#![tactic(auto)]
+
 mod descent;
 mod packs;
 

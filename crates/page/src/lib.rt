@@ -1,4 +1,6 @@
 // A page on lent bytes, filled from the front.
+#![tactic(auto)]
+
 ghost use Rattle.std.specs.Prelude.{◌≡◌, [], ◌∷◌, slice_set};
 ghost use Rattle.page.specs.Pages.{loan, Put-on};
 

@@ -1,4 +1,6 @@
 // Takes one task through both axes, prints each line's earliest and latest step, and then the plan of a sheet.
+#![tactic(auto)]
+
 use list_axis::ListAxis;
 use matrix_axis::MatrixAxis;
 use std::io::Write;

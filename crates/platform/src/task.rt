@@ -8,7 +8,7 @@ use axis::{Axis, AxisFault, Bound, earliest, latest};
 // Three lines with their ranges, and one bound.
 fn set_up<A: Axis>(axis: &mut A) -> Result<(), AxisFault>
     ensures answer { result ≡ Ok tt }
-    ensures after { means axis.new ≡ worked }
+    ensures after { A.means axis.new ≡ worked }
 {
     axis.reset(&[0, 0, 0], &[4, 3, 0])?;
     axis.put(Bound { p: 1, q: 2, d: -3 })
@@ -16,14 +16,14 @@ fn set_up<A: Axis>(axis: &mut A) -> Result<(), AxisFault>
 
 // The earliest and the latest value of a line.
 fn span<A: Axis>(axis: &A, line: u8) -> Result<(i16, i16), AxisFault>
-    ensures { Spanned (means axis.now) line result }
+    ensures { Spanned (A.means axis.now) line result }
 {
     Ok((earliest(axis, line)?, latest(axis, line)?))
 }
 
 pub fn task<A: Axis>(axis: &mut A) -> Result<[(i16, i16); 3], AxisFault>
     ensures answer { result ≡ Ok times }
-    ensures after { means axis.new ≡ worked }
+    ensures after { A.means axis.new ≡ worked }
 {
     set_up(axis)?;
     let first = span(axis, 1)?;

@@ -37,14 +37,14 @@ pub fn back_held<T: Axis, P: Axis>(
 
 // The largest difference, p less q.
 pub fn reach_line<A: Axis>(axis: &A, p: u8, q: u8) -> Result<i16, AxisFault>
-    ensures { (k : Journal) (d : Direction) → means axis.now ≡ axis_of d k → Reached k d p q result }
+    ensures { (k : Journal) (d : Direction) → A.means axis.now ≡ axis_of d k → Reached k d p q result }
 {
     axis.tightest(p, q)
 }
 
 fn has_line<A: Axis>(axis: &A, line: u8) -> bool
-    ensures yes { result ≡ true → line ≤ lines (means axis.now) }
-    ensures no { line ≤ lines (means axis.now) → result ≡ true }
+    ensures yes { result ≡ true → line ≤ lines (A.means axis.now) }
+    ensures no { line ≤ lines (A.means axis.now) → result ≡ true }
 {
     match axis.tightest(line, 0) {
         Ok(_) => true,
@@ -55,8 +55,8 @@ fn has_line<A: Axis>(axis: &A, line: u8) -> bool
 // Has the axis just these lines, and no more bounds than entries make?
 pub fn has_lines<A: Axis>(axis: &A, count: u8) -> bool
     requires { count ≤ 12 }
-    ensures yes { result ≡ true → HasLines (means axis.now) count }
-    ensures no { HasLines (means axis.now) count → result ≡ true }
+    ensures yes { result ≡ true → HasLines (A.means axis.now) count }
+    ensures no { HasLines (A.means axis.now) count → result ≡ true }
 {
     axis.count() <= 24 && has_line(axis, count) && !has_line(axis, count + 1)
 }

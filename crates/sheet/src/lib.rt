@@ -1,4 +1,6 @@
 // A sheet of stays on two axes: six calls, each a step of the journal.
+#![tactic(auto)]
+
 use axis::Axis;
 use journal::{Entries, Ranges, Stays};
 

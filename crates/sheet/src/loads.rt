@@ -15,7 +15,7 @@ use std::alloc::{AllocError, Global};
 fn lay_lines<A: Axis>(axis: &mut A, lows: &[i16], highs: &[i16])
     requires paired { Paired lows.now highs.now }
     requires ordered { Ordered lows.now highs.now }
-    ensures { means axis.new ≡ record { lows = lows.entry.now; highs = highs.now; bounds = [] } }
+    ensures { A.means axis.new ≡ record { lows = lows.entry.now; highs = highs.now; bounds = [] } }
 {
     let _ = axis.reset(lows, highs);
 }

@@ -28,7 +28,7 @@ impl<'a, E: Blank + Copy> Stack<'a, E> {
 
     // The slot that the newest element leaves is blanked.
     pub fn pop(&mut self) -> Result<E, StackFault>
-        ensures after { Popped nothing self.old self.new result }
+        ensures after { Popped E.nothing self.old self.new result }
         ensures size { length (memory self.new) ≡ length (memory self.old) }
         ensures same { loan self.new ≡ loan self.old }
     {
@@ -66,8 +66,8 @@ impl<'a, E: Blank + Copy> Stack<'a, E> {
     // Takes the newest element out of its slot.
     fn lift(&mut self) -> E
         requires { 0 < self.old.len }
-        ensures top { result ≡ slice_index_or (memory self.old) self.new.len nothing }
-        ensures places { memory self.new ≡ slice_set (memory self.old) self.new.len nothing }
+        ensures top { result ≡ slice_index_or (memory self.old) self.new.len E.nothing }
+        ensures places { memory self.new ≡ slice_set (memory self.old) self.new.len E.nothing }
         ensures count { self.old.len ≡ self.new.len + 1 }
         ensures same { loan self.new ≡ loan self.old }
     {

@@ -1,4 +1,6 @@
 // A stack over a lent slice, written once for every kind of element that has a blank.
+#![tactic(auto)]
+
 mod calls;
 pub mod elements;
 pub mod fault;
@@ -20,7 +22,7 @@ pub trait Blank {
 
 // The elements are the first len slots, oldest first. The memory stays the lender's.
 #[derive(Drop)]
-pub struct Stack<'a, E: Blank + Copy> {
+pub struct Stack<'a, E> {
     slots: &'a mut [E],
     len: usize,
     ghost ok: { len ≤ length slots.now },

@@ -1,4 +1,6 @@
 // An answer as text, in a lent buffer: a plan line by line, or that there is none, or a fault.
+#![tactic(auto)]
+
 mod fault;
 mod lines;
 mod parts;
