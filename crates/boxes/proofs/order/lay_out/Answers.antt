@@ -9,14 +9,14 @@ loop-i-init c =
     let l : 0 + length (pairs_from 1 (c.args.n - 1)) ≡ length c.args.trials.now = omega (arith, length_order c.args.n) in
     (refl, l, λ h. row_all _ _ 0 1 c.args.n h refl l)
 
-pub lay-row-at-requires : goal.lay-row-at-requires
-lay-row-at-requires c =
+pub lay_row-at-requires : goal.lay_row-at-requires
+lay_row-at-requires c =
     record { few = (omega arith, omega arith); room = omega (arith, row_length c.loop-i.i c.args.n (omega arith)) }
 
 pub loop-i-preserved : goal.loop-i-preserved
 loop-i-preserved c =
     let i = c.loop-i.i in
     let n = c.args.n in
-    let e = row_more _ _ _ i n (omega arith) c.loop-i.invariant.0 c.lay-row-at.ensures.laid in
-    let l : c.lay-row-at.result + length (pairs_from (i + 1) (n - (i + 1))) ≡ length c.lay-row-at.new.trials = omega (arith, row_length i n (omega arith)) in
+    let e = row_more _ _ _ i n (omega arith) c.loop-i.invariant.0 c.lay_row-at.ensures.laid in
+    let l : c.lay_row-at.result + length (pairs_from (i + 1) (n - (i + 1))) ≡ length c.lay_row-at.new.trials = omega (arith, row_length i n (omega arith)) in
     (e, l, λ h. row_all _ _ _ (i + 1) n h e l)

@@ -5,10 +5,16 @@ use Rattle.ledger.specs.Means.{means}
 use Rattle.ledger.proofs.Standing.{within_front, front_few}
 use Rattle.ledger.proofs.Ledger.pop.Goals as goal
 
-pub invariant-of-self : goal.invariant-of-self
-invariant-of-self c =
+pub invariant_of-self : goal.invariant_of-self
+invariant_of-self c =
     let l = c.args.self.now in
-    (search rules, (l.paired, (l.ordered, (within_front _ _ _ _ c.pop.ensures.items l.within, (front_few _ _ _ c.pop.ensures.items l.few, tt)))))
+    record {
+      room = search rules;
+      paired = l.paired;
+      ordered = l.ordered;
+      within = within_front _ _ _ _ c.pop.ensures.items l.within;
+      few = front_few _ _ _ c.pop.ensures.items l.few;
+    }
 
 pub returns-in-Some : goal.returns-in-Some
 returns-in-Some c = record {
