@@ -31,7 +31,7 @@ pub fn print_fault(fault: ImageFault, buffer: &mut [u8]) -> Result<usize, TextFa
 
 // The text fills the front of the buffer, and the answer is its length.
 fn print<R: Report>(report: &R, buffer: &mut [u8]) -> Result<usize, TextFault>
-    ensures { Printed (text report.now) buffer.old buffer.new result }
+    ensures { Printed (R.text report.now) buffer.old buffer.new result }
 {
     let needed = measure(report);
     if needed <= buffer.len() {
@@ -43,7 +43,7 @@ fn print<R: Report>(report: &R, buffer: &mut [u8]) -> Result<usize, TextFault>
 }
 
 fn measure<R: Report>(report: &R) -> usize
-    ensures { result ≡ min (length (text report.now)) most }
+    ensures { result ≡ min (length (R.text report.now)) most }
 {
     let mut page = Page::new(&mut []);
     report.print_on(&mut page);
@@ -51,8 +51,8 @@ fn measure<R: Report>(report: &R) -> usize
 }
 
 fn fill<R: Report>(report: &R, buffer: &mut [u8])
-    requires { length (text report.now) ≤ length buffer.old }
-    ensures { buffer.new ≡ text report.now ++ drop (length (text report.now)) buffer.old }
+    requires { length (R.text report.now) ≤ length buffer.old }
+    ensures { buffer.new ≡ R.text report.now ++ drop (length (R.text report.now)) buffer.old }
 {
     let mut page = Page::new(buffer);
     report.print_on(&mut page);

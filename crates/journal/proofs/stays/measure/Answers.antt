@@ -6,7 +6,7 @@ use Rattle.journal.proofs.stays.measure.Goals as goal
 
 pub loop-stay-preserved : goal.loop-stay-preserved
 loop-stay-preserved c = (
-  mapped_more size_of _ _ no_stay _ _ _ c.loop-stay-test.true c.loop-stay.invariant.0 c.push-reserved.ensures.items c.size.ensures,
+  mapped_more size_of _ _ no_stay _ _ _ c.loop-stay-test.true c.loop-stay.invariant.0 c.push_reserved.ensures.items c.size.ensures,
   search rules,
   search rules,
 )

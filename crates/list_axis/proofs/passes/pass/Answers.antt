@@ -3,4 +3,4 @@ use Rattle.list_axis.proofs.Ends.{kept_complete}
 use Rattle.list_axis.proofs.passes.pass.Goals as goal
 
 pub returns : goal.returns
-returns c = passed_weaker _ (kept_complete c.args.ledger.now c.requires.standing) (passed_both _ _ c.pass-bounds-bounds.ensures c.pass-ranges-ranges.ensures)
+returns c = passed_weaker _ (kept_complete c.args.ledger.now c.requires.standing) (passed_both _ _ c.pass_bounds-bounds.ensures c.pass_ranges-ranges.ensures)

@@ -8,4 +8,4 @@ pub loop-line-preserved : goal.loop-line-preserved
 loop-line-preserved c =
     passed_weaker _
     (λ row k. below_more (λ r. RangeKept (means c.args.ledger.now) r row) c.loop-line.line k.0 k.1)
-    (passed_both _ _ c.loop-line.invariant c.pass-range-changed.ensures)
+    (passed_both _ _ c.loop-line.invariant c.pass_range-changed.ensures)

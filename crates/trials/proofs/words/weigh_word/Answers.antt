@@ -11,13 +11,13 @@ ruling-entry-requires g c =
     let w = pair_within _ _ _ _ c.requires.node c.args.k c.requires.within in
     record { sized = c.requires.node.sized; first = w.0; second = w.1 }
 
-pub judge-on-requires : goal.judge-on-requires
-judge-on-requires g c =
+pub judge_on-requires : goal.judge_on-requires
+judge_on-requires g c =
     subst (λ (e : Entry). Within (lines (in_direction (g.T.Axis.means c.args.time.now) (g.P.Axis.means c.args.platform.now) e.direction)) e.bound)
     (sym c.ruling-entry.ensures) (entry_within _ _ _ _ c.requires.node c.args.k c.requires.within c.args.word)
 
 pub returns : goal.returns
 returns g c = record {
   entry = c.ruling-entry.ensures;
-  told = told_word _ _ _ _ c.requires.node c.args.k c.requires.within c.args.word _ _ c.ruling-entry.ensures c.judge-on.ensures;
+  told = told_word _ _ _ _ c.requires.node c.args.k c.requires.within c.args.word _ _ c.ruling-entry.ensures c.judge_on.ensures;
 }

@@ -5,7 +5,12 @@ use Rattle.boxes.specs.declared.model.Direction.TheVariants.{Time, Platform}
 use Rattle.journal.proofs.Entered.{FewOn, front_few}
 use Rattle.journal.proofs.tables.Entries.pop.Goals as goal
 
-pub invariant-of-self : goal.invariant-of-self
-invariant-of-self c =
+pub invariant_of-self : goal.invariant_of-self
+invariant_of-self c =
     let few : (d : Direction) → FewOn d (vec_items c.args.self.now.items) → FewOn d (vec_items c.pop.new.self) = λ d. front_few d _ _ (option_to_list c.pop.result) c.pop.ensures.items in
-    (search rules, (search rules, (few Time c.args.self.now.timely, (few Platform c.args.self.now.placed, tt))))
+    record {
+      room = search rules;
+      few = search rules;
+      timely = few Time c.args.self.now.timely;
+      placed = few Platform c.args.self.now.placed;
+    }

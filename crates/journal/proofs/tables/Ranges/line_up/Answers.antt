@@ -8,10 +8,10 @@ use Rattle.journal.proofs.tables.Ranges.line_up.Goals as goal
 
 pub loop-stay-preserved : goal.loop-stay-preserved
 loop-stay-preserved c =
-    let fits_low : SFits w16 c.range-of-low.result.0 = search rules in
-    let fits-high : SFits w16 c.range-of-low.result.1 = search rules in (
-      mapped_more (low_on c.args.direction) _ _ no_stay _ _ _ c.loop-stay-test.true c.loop-stay.invariant.0 c.push-reserved.ensures.items (to_z-of_z w16 _ fits_low ∙ c.range-of-low.ensures.low),
-      mapped_more (high_on c.args.direction c.args.span c.args.platform) _ _ no_stay _ _ _ c.loop-stay-test.true c.loop-stay.invariant.1 c.push-reserved-in-loop-stay.ensures.items (to_z-of_z w16 _ fits-high ∙ c.range-of-low.ensures.high),
+    let fits_low : SFits w16 c.range_of-low.result.0 = search rules in
+    let fits-high : SFits w16 c.range_of-low.result.1 = search rules in (
+      mapped_more (low_on c.args.direction) _ _ no_stay _ _ _ c.loop-stay-test.true c.loop-stay.invariant.0 c.push_reserved.ensures.items (to_z-of_z w16 _ fits_low ∙ c.range_of-low.ensures.low),
+      mapped_more (high_on c.args.direction c.args.span c.args.platform) _ _ no_stay _ _ _ c.loop-stay-test.true c.loop-stay.invariant.1 c.push_reserved-in-loop-stay.ensures.items (to_z-of_z w16 _ fits-high ∙ c.range_of-low.ensures.high),
       search rules,
       search rules,
     )

@@ -6,6 +6,6 @@ use Rattle.journal.proofs.tables.Stays.sizes.Goals as goal
 pub returns : goal.returns
 returns c = record {
   value = search rules;
-  count = ap length (c.as-slice.ensures.value ∙ c.args.self.now.measured) ∙ length-map _ size_of;
+  count = ap length (c.as_slice.ensures.value ∙ c.args.self.now.measured) ∙ length-map _ size_of;
   sized = search rules;
 }

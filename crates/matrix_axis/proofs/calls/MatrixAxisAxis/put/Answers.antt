@@ -7,17 +7,17 @@ use Rattle.matrix_axis.proofs.Axes.{axis_closed}
 use Rattle.matrix_axis.proofs.Kept.{kept_put}
 use Rattle.matrix_axis.proofs.calls.MatrixAxisAxis.put.Goals as goal
 
-pub closes-ring-requires : goal.closes-ring-requires
-closes-ring-requires c = let first = c.in-ok-admits.ensures in (first.0, first.1.0)
+pub closes_ring-requires : goal.closes_ring-requires
+closes_ring-requires c = let first = c.in_ok-admits.ensures in (first.0, first.1.0)
 
-pub returns-then-closes-ring : goal.returns-then-closes-ring
-returns-then-closes-ring c =
+pub returns-then-closes_ring : goal.returns-then-closes_ring
+returns-then-closes_ring c =
     let a = c.args.self.now in
-    (put_refused a.ledger a.«open» c.args.bound c.in-ok-admits.ensures (c.closes-ring.ensures.yes c.if-closes-ring.true), refl)
+    (put_refused a.ledger a.«open» c.args.bound c.in_ok-admits.ensures (c.closes_ring.ensures.yes c.if-closes_ring.true), refl)
 
 pub mend-requires : goal.mend-requires
 mend-requires c =
-    let first = c.in-ok-admits.ensures in
+    let first = c.in_ok-admits.ensures in
     let n = sym c.lines.ensures.value in
     record {
       few = c.lines.ensures.few;
@@ -25,15 +25,16 @@ mend-requires c =
       closed = subst (λ n. Closed n (cell c.args.self.now.table.cells)) n (axis_closed c.args.self.now);
     }
 
-pub invariant-of-self-2 : goal.invariant-of-self-2
-invariant-of-self-2 c =
+pub invariant_of-self-2 : goal.invariant_of-self-2
+invariant_of-self-2 c =
     let a = c.args.self.now in
-    let first = c.in-ok-admits.ensures in (
-      open_put a.ledger a.«open» c.args.bound first (c.closes-ring.ensures.no c.if-closes-ring.false) _ c.push.ensures,
-      (kept_put _ _ c.args.bound _ _ c.push.ensures first.0 a.kept (subst (λ n. Same n c.mend.new.self.cells (mend (cell a.table.cells) c.args.bound)) c.lines.ensures.value c.mend.ensures), tt),
-    )
+    let first = c.in_ok-admits.ensures in
+    record {
+      «open» = open_put a.ledger a.«open» c.args.bound first (c.closes_ring.ensures.no c.if-closes_ring.false) _ c.push.ensures;
+      kept = kept_put _ _ c.args.bound _ _ c.push.ensures first.0 a.kept (subst (λ n. Same n c.mend.new.self.cells (mend (cell a.table.cells) c.args.bound)) c.lines.ensures.value c.mend.ensures);
+    }
 
 pub returns : goal.returns
 returns c =
     let a = c.args.self.now in
-    (put_stands a.ledger a.«open» c.args.bound c.in-ok-admits.ensures (c.closes-ring.ensures.no c.if-closes-ring.false), c.push.ensures)
+    (put_stands a.ledger a.«open» c.args.bound c.in_ok-admits.ensures (c.closes_ring.ensures.no c.if-closes_ring.false), c.push.ensures)

@@ -9,7 +9,7 @@ use Rattle.matrix_axis.proofs.table.Table.fill.Goals as goal
 pub loop-k-preserved : goal.loop-k-preserved
 loop-k-preserved c =
     let m = means c.args.ledger.now in
-    let fits : SFits w16 c.direct-or-none.result = search rules in
+    let fits : SFits w16 c.direct_or_none.result = search rules in
     let full = c.loop-k.self.full in
     filled_cell (lines m) (base m.lows m.highs) c.loop-k.self.cells c.loop-k.k _ c.args.ledger.now.paired.1 (omega arith) c.loop-k.invariant
-    (λ h. to_z-of_z w16 _ fits ∙ c.direct-or-none.ensures h)
+    (λ h. to_z-of_z w16 _ fits ∙ c.direct_or_none.ensures h)
