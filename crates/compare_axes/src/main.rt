@@ -1,7 +1,6 @@
 // Runs long lists of calls on both axes and on a plain model, and compares every answer.
 #![tactic(auto)]
 
-
 mod calls;
 mod manner;
 mod plain;

@@ -12,7 +12,7 @@ mod settles;
 
 // Between calls the axes hold the stays' lines and the entries' bounds.
 #[derive(Drop)]
-pub struct Sheet<T: Axis + Drop, P: Axis + Drop> {
+pub struct Sheet<T, P> {
     time: T,
     platform: P,
     stays: Stays,

@@ -6,5 +6,5 @@ use Rattle.text.proofs.printer.fill.Goals as goal
 pub returns : goal.returns
 returns g c =
     let far : length c.args.buffer.now ≤ most = omega arith in
-    let whole = filled_whole _ _ _ _ c.new-page.ensures.bytes c.new-page.ensures.len c.print-on.ensures c.requires far in
+    let whole = filled_whole _ _ _ _ c.new-page.ensures.bytes c.new-page.ensures.len c.print_on.ensures c.requires far in
     search rules
