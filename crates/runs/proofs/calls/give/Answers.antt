@@ -6,7 +6,7 @@ use Rattle.runs.proofs.calls.give.Goals as goal
 
 pub returns-in-Load : goal.returns-in-Load
 returns-in-Load g c =
-    load_onward g.T.Axis.means g.P.Axis.means c.args.sheet.now c.load.new.self (request c.args.call.now) _ _ _ c.load.result _ (ap request c.in-Load.is ∙ ap (load c.in-Load.span c.in-Load.platform) (sym c.as-slice.ensures.value)) c.told.ensures c.load.ensures
+    load_onward g.T.Axis.means g.P.Axis.means c.args.sheet.now c.load.new.self (request c.args.call.now) _ _ _ c.load.result _ (ap request c.in-Load.is ∙ ap (load c.in-Load.span c.in-Load.platform) (sym c.as_slice.ensures.value)) c.told.ensures c.load.ensures
 
 pub returns-in-Bind : goal.returns-in-Bind
 returns-in-Bind g c = onward g.T.Axis.means g.P.Axis.means c.args.sheet.now c.bind.new.self (request c.args.call.now) _ _ _ (ap request c.in-Bind.is) c.told-in-Bind.ensures refl c.bind.ensures

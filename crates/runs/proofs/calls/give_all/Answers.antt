@@ -11,7 +11,7 @@ loop-call-init g c =
 pub loop-call-preserved : goal.loop-call-preserved
 loop-call-preserved g c =
     let count : length (vec_items c.loop-call.given) ≡ c.loop-call.call-index = search rules in (
-      ran_more g.T.Axis.means g.P.Axis.means c.args.sheet.now c.loop-call.sheet c.give.new.sheet c.args.calls.now _ _ c.loop-call.call-index c.call-item.result c.in-Ok.answer count c.loop-call-test.true c.call-item.is c.push-reserved.ensures.items c.in-Ok.ensures c.loop-call.invariant.0,
+      ran_more g.T.Axis.means g.P.Axis.means c.args.sheet.now c.loop-call.sheet c.give.new.sheet c.args.calls.now _ _ c.loop-call.call-index c.call-item.result c.in-Ok.answer count c.loop-call-test.true c.call-item.is c.push_reserved.ensures.items c.in-Ok.ensures c.loop-call.invariant.0,
       search rules,
       search rules,
     )

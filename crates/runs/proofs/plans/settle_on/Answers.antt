@@ -13,7 +13,7 @@ pub returns : goal.returns
 returns g c =
     let n : length c.stays-count.result.now ≡ length (journal_of c.args.sheet.now).stays = ap length c.stays-count.ensures.value ∙ ap (λ (k : Journal). length k.stays) c.settle.ensures.same.journal in
     let room : length c.stays-count.result.now - 0 ≡ length (journal_of c.args.sheet.now).stays = omega arith in
-    let words : c.pair-count-words.result ≡ pairs (length (journal_of c.args.sheet.now).stays) = c.pair-count-words.ensures ∙ ap pairs n in
-    let space : c.pair-count-words.result - 0 ≡ pairs (length (journal_of c.args.sheet.now).stays) = omega arith in
+    let words : c.pair_count-words.result ≡ pairs (length (journal_of c.args.sheet.now).stays) = c.pair_count-words.ensures ∙ ap pairs n in
+    let space : c.pair_count-words.result - 0 ≡ pairs (length (journal_of c.args.sheet.now).stays) = omega arith in
     plan_answered g.T.Axis.means g.P.Axis.means c.args.sheet.now c.settle.new.self _ _ 0 0 (take (length (journal_of c.args.sheet.now).stays) c.settle.new.places) _ (take (pairs (length (journal_of c.args.sheet.now).stays)) c.settle.new.trials) _ c.planned.result
-    (ap (λ k. take k c.settle.new.places) room) (ap (λ k. take k c.settle.new.trials) space) c.planned.ensures c.in-default.ensures.answer c.settle.ensures.same
+    (ap (λ k. take k c.settle.new.places) room) (ap (λ k. take k c.settle.new.trials) space) c.planned.ensures c.in_default.ensures.answer c.settle.ensures.same
