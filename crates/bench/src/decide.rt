@@ -1,6 +1,7 @@
 // Decides a packing on two axes of any kind.
 ghost use Rattle.std.specs.Prelude.{◌≡◌, ◌≤◌, true, IfOk, vec_len, OnOk};
-ghost use Rattle.boxes.specs.Overlaps.{SizedBox, Sized};
+ghost use Rattle.boxes.specs.Overlaps.{Sized};
+ghost use Rattle.bench.specs.Extents.{GoodSize};
 ghost use Rattle.bench.specs.Decided.{axis_of, Decided};
 
 use crate::packings::{Packing, Ranges};
@@ -11,7 +12,7 @@ use packing::{Outcome, pack};
 use stack::Blank;
 
 fn is_sized(size: Size) -> bool
-    ensures { result ≡ true → SizedBox size }
+    ensures { result ≡ true → GoodSize size }
 {
     1 <= size.steps && size.steps <= 2880 && 1 <= size.metres && size.metres <= 2880
 }

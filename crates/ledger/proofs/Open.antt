@@ -1,10 +1,11 @@
 -- A ledger whose bounds close no negative ring: its lengths, its validity, and how it stays so as bounds come and go.
-use Rattle.std.proofs.Common.{◌≡◌, [], ◌∷◌, ℤ, pos, ◌+ℤ◌, ◌≤ℤ◌, ◌<ℤ◌, sym, refl, subst, inl}
+use Rattle.std.proofs.Common.{◌≡◌, List, [], ◌∷◌, ℤ, pos, ◌+ℤ◌, ◌≤ℤ◌, ◌<ℤ◌, Ok, Err, Result, sym, refl, subst, inl}
 use Rattle.axis.specs.declared.model.Bound.{Bound}
+use Rattle.axis.specs.declared.model.AxisFault.{AxisFault}
 use Rattle.axis.specs.declared.model.AxisFault.TheVariants.{NoPlacement}
 use Rattle.axis.specs.Meaning.{Meaning, with_bound, Remains}
 use Rattle.axis.specs.Questions.{AllYes, FirstNo}
-use Rattle.axis.specs.Asks.{Valid, Asked, first_asks, put_asks}
+use Rattle.axis.specs.Asks.{Valid, Reset, Asked, first_asks, put_asks}
 use Rattle.axis.specs.Distance.{Open, Right, distance, base}
 use Rattle.axis.proofs.Tables.{right_earliest}
 use Rattle.axis.proofs.Distances.{distance_right, right_remains, right_refuses, open_push}
@@ -39,3 +40,7 @@ module _ (l : Ledger) (o : Open (means l)) where
 
       pub open_put : (after : Meaning) → after ≡ with_bound (means l) b → Open after
       open_put after e = subst Open (sym e) (open_push (base (means l).lows (means l).highs) (means l).bounds b o h)
+
+pub open_reset : (m after : Meaning) (lows highs : List ℤ) (r : Result (Unit {0}) AxisFault) → Reset m lows highs r after → Open m → Open after
+open_reset m after lows highs (Ok u) h o = subst Open (sym h.1) refl
+open_reset m after lows highs (Err f) h o = subst Open (sym h.1) o

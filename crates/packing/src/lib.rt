@@ -4,4 +4,5 @@
 mod descent;
 mod packs;
 
+pub use moves::{Standing, back_on, put_on};
 pub use packs::{Outcome, pack};

@@ -1,15 +1,11 @@
-// Takes one task through both axes, prints each line's earliest and latest step, and then the plan of a sheet.
+// Takes one task through both axes and prints each line's earliest and latest step.
 #![tactic(auto)]
 
 use list_axis::ListAxis;
 use matrix_axis::MatrixAxis;
-use std::io::Write;
 
-mod plan;
 mod task;
 
-use plan::worked;
-use report::report;
 use task::task;
 
 fn show(rt: &HostRuntime, name: &str, times: &[(i16, i16); 3]) -> anyhow::Result<()> {
@@ -34,17 +30,6 @@ fn run(rt: &HostRuntime) -> anyhow::Result<()> {
     Ok(())
 }
 
-// The plan of the worked sheet, on matrix axes.
-fn show_plan(rt: &HostRuntime) -> anyhow::Result<()> {
-    let heap = rt.alloc();
-    let mut sheet = worked(heap, MatrixAxis::new(heap)?, MatrixAxis::new(heap)?)?;
-    let mut text = [0; 64];
-    let length = report(&mut sheet, &mut text)?;
-    rt.stdout().write_all(&text[0..length])?;
-    Ok(())
-}
-
 fn main(rt: HostRuntime) -> anyhow::Result<()> {
-    run(&rt)?;
-    show_plan(&rt)
+    run(&rt)
 }

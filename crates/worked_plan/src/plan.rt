@@ -1,7 +1,7 @@
 // The worked sheet, on any two axes.
 ghost use Rattle.std.specs.Prelude.{◌≡◌, IfOk};
 ghost use Rattle.sheet.specs.Standing.{journal_of, Stands};
-ghost use Rattle.platform.specs.Sheet.{worked_stays, worked_sheet};
+ghost use Rattle.worked_plan.specs.Sheet.{worked_stays, worked_sheet};
 
 use axis::{Axis, Bound};
 use faults::SheetFault;
