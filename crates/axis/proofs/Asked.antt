@@ -1,5 +1,5 @@
 -- Questions in a row: a no among the first is the first no of all.
-use Rattle.std.proofs.Common.{◌≡◌, ◌⊎◌, List, [], ◌∷◌, ◌++◌, inl, inr}
+use Rattle.std.proofs.Common.{List, [], ◌∷◌, ◌++◌, inl, inr}
 use Rattle.axis.specs.Questions.{Question, AllYes, FirstNo}
 
 module _ {F : Type 0} where

@@ -1,5 +1,5 @@
 -- The computed lengths are right wherever no ring is negative, and none is where a placement exists.
-use Rattle.std.proofs.Common.{◌≡◌, ℕ, zero, suc, ◌<◌, ◌≤◌, true, T, ◌⊎◌, List, [], ◌∷◌, ◌++◌, length, get_or, ℤ, pos, ◌+ℤ◌, ◌-ℤ◌, neg_ℤ, ◌≤ℤ◌, ◌<ℤ◌, Ok, Err, Result, sym, refl, ap, ◌∙◌, subst, inl, inr, append_assoc, append-nil, arith}
+use Rattle.std.proofs.Common.{◌≡◌, ℕ, zero, suc, ◌≤◌, true, T, List, [], ◌∷◌, ◌++◌, length, ℤ, pos, ◌+ℤ◌, ◌-ℤ◌, neg_ℤ, ◌≤ℤ◌, ◌<ℤ◌, Ok, Err, Result, sym, refl, ◌∙◌, subst, inl, inr, append_assoc, append-nil, arith}
 use lib.Signed.{le_z, le_z_yes}
 use Rattle.std.specs.List.{ContainsAt as Has, AllByRecursion as All}
 use Rattle.std.proofs.lemmas.Int.{ints, by_lt_z}
@@ -7,7 +7,7 @@ use Rattle.std.proofs.lemmas.Bool.{and_parts, and_from}
 use Rattle.std.proofs.ByRecursion.{has_push_cases, all_has_itself, All-weaker}
 use Rattle.axis.specs.declared.model.Bound.{Bound}
 use Rattle.axis.specs.declared.model.AxisFault.{AxisFault}
-use Rattle.axis.specs.Meaning.{Meaning, with_bound, lines, at_line, low, high, Placement, Remains, Largest, Earliest, Shortest, bound, down, up}
+use Rattle.axis.specs.Meaning.{Meaning, with_bound, lines, at_line, Placement, Remains, Largest, Earliest, Shortest, bound, down, up}
 use Rattle.axis.specs.Asks.{Paired, InOrder, Ordered, Named, Within, AllWithin, Valid, Tightest, Tight}
 use Rattle.axis.specs.Distance.{Table, base, mend, mended, distance, open_from, Open, Right}
 use Rattle.axis.specs.Theory.{Distances, DistancesHold, EarliestValue, LatestValue, ReachOf}

@@ -1,7 +1,7 @@
 -- One row of lengths: made of walks and shortened by no edge, it is the row of shortest lengths.
-use Rattle.std.proofs.Common.{◌≡◌, ℕ, ◌≤◌, ℤ, pos, ◌+ℤ◌, ◌≤ℤ◌, arith}
+use Rattle.std.proofs.Common.{ℕ, ℤ, pos, ◌+ℤ◌, ◌≤ℤ◌, arith}
 use Rattle.std.proofs.lemmas.Int.{ints}
-use Rattle.axis.specs.Meaning.{Meaning, lines, Edge, Walk, none, step, Shortest}
+use Rattle.axis.specs.Meaning.{Meaning, Edge, Walk, none, step, Shortest}
 
 module _ (m : Meaning) (row : ℕ → ℤ) (fixed : (p q : ℕ) (d : ℤ) → Edge m p q d → row q ≤ℤ (row p +ℤ d)) where
   row_along : (p q : ℕ) (l : ℤ) → Walk m p q l → row q ≤ℤ (row p +ℤ l)

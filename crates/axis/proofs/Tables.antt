@@ -1,13 +1,12 @@
 -- A right table has the shortest lengths, which are the largest differences; the base is right, and mending keeps a table right.
-use Rattle.std.proofs.Common.{◌≡◌, ℕ, ◌≤◌, true, false, cond, eqb, ◌⊎◌, List, [], ◌∷◌, length, ℤ, pos, ◌+ℤ◌, ◌-ℤ◌, neg_ℤ, ◌≤ℤ◌, ◌<ℤ◌, sym, refl, ap, ◌∙◌, subst, inl, inr, arith}
+use Rattle.std.proofs.Common.{◌≡◌, ℕ, ◌≤◌, true, false, cond, eqb, ◌⊎◌, List, [], length, ℤ, pos, ◌+ℤ◌, ◌-ℤ◌, neg_ℤ, ◌≤ℤ◌, ◌<ℤ◌, sym, refl, ap, ◌∙◌, subst, inl, inr, arith}
 use lib.Signed.{lt_z}
 use Rattle.std.specs.Int.{int_min}
-use Rattle.std.specs.List.{ContainsAt as Has}
 use Rattle.std.proofs.lemmas.Int.{ints, clamps}
 use Rattle.std.proofs.lemmas.Bool.{cases_eq, cond-true, cond-false, eq-eqb, ne_eqb}
 use Rattle.std.proofs.ByRecursion.{has_push, has_push_cases}
 use Rattle.axis.specs.declared.model.Bound.{Bound}
-use Rattle.axis.specs.Meaning.{Meaning, with_bound, lines, at_line, low, high, Placement, Remains, Largest, Earliest, Edge, bound, down, up, Walk, none, step, Shortest, NegativeRing}
+use Rattle.axis.specs.Meaning.{Meaning, with_bound, lines, at_line, low, high, Placement, Largest, Earliest, Edge, bound, down, up, Walk, none, step, Shortest, NegativeRing}
 use Rattle.axis.specs.Distance.{Table, base, mend, Right}
 use Rattle.axis.proofs.Walks.{walk_join, walk_kept, walk_more}
 

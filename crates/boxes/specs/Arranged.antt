@@ -1,5 +1,5 @@
 -- Arrangements of boxes on two axes, and what a search for one answers.
-use Rattle.std.specs.Prelude.{◌≡◌, ℕ, ◌≤◌, List, [], ◌∷◌, map, length, get_or, ℤ, pos, ◌≤ℤ◌, Some, None, Option}
+use Rattle.std.specs.Prelude.{◌≡◌, ℕ, ◌≤◌, List, map, length, ℤ, pos, ◌≤ℤ◌, Some, None, Option}
 use Rattle.std.specs.List.{AllByRecursion as All}
 use Rattle.stack.specs.declared.elements.Word.{Word}
 use Rattle.stack.specs.declared.elements.Trial.{Trial}
@@ -7,7 +7,7 @@ use Rattle.axis.specs.Meaning.{Meaning, at_line, Placement}
 use Rattle.boxes.specs.declared.model.Size.{Size}
 use Rattle.boxes.specs.declared.model.Place.{Place}
 use Rattle.boxes.specs.Overlaps.{HoldsWord, Free}
-use Rattle.boxes.specs.Order.{Pair, trial_order, pair_of}
+use Rattle.boxes.specs.Order.{trial_order, pair_of}
 
 -- line 0 is at 0, and box i, counted from 1, at its place
 abbrev pub step_of : List Place → ℕ → ℤ

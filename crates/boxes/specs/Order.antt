@@ -1,5 +1,5 @@
 -- Pairs of boxes in the order of trials: (1,2), (1,3) .. (2,3) ..
-use Rattle.std.specs.Prelude.{◌≡◌, ℕ, zero, suc, ◌+◌, ◌-◌, ◌*◌, ◌/◌, List, [], ◌∷◌, ◌++◌, map, None}
+use Rattle.std.specs.Prelude.{ℕ, zero, suc, ◌+◌, ◌-◌, ◌*◌, ◌/◌, List, [], ◌++◌, map, None}
 use Rattle.std.specs.List.{range_with_len}
 use Rattle.stack.specs.declared.elements.Trial.{Trial}
 

@@ -1,5 +1,5 @@
 -- When two boxes overlap, and the words for how they lie.
-use Rattle.std.specs.Prelude.{◌≡◌, ℕ, ◌-◌, ◌<◌, ◌≤◌, ◌⊎◌, List, length, get_or, ℤ, pos, ◌+ℤ◌, ◌-ℤ◌, neg_ℤ, ◌≤ℤ◌, ◌<ℤ◌, slice_index_or}
+use Rattle.std.specs.Prelude.{ℕ, ◌-◌, ◌<◌, ◌≤◌, List, length, ℤ, pos, ◌+ℤ◌, ◌-ℤ◌, neg_ℤ, ◌≤ℤ◌, ◌<ℤ◌, slice_index_or}
 use Rattle.stack.specs.declared.elements.Word.{Word}
 use Rattle.stack.specs.declared.elements.Word.TheVariants.{Before, After, Nearer, Farther}
 use Rattle.boxes.specs.declared.model.Size.{Size}
@@ -21,10 +21,10 @@ Sized sizes = (k : ℕ) → k < length sizes → ((1 ≤ (slice_index_or sizes k
 module _ (sizes : List Size) where
   -- of box i, counted from 1
   abbrev pub wide : ℕ → ℕ
-  wide i = (get_or sizes (i - 1) no_size).steps
+  wide i = (slice_index_or sizes (i - 1) no_size).steps
 
   abbrev pub long : ℕ → ℕ
-  long i = (get_or sizes (i - 1) no_size).metres
+  long i = (slice_index_or sizes (i - 1) no_size).metres
 
   -- the bound that says the word of the boxes i and j, and on which axis
   abbrev pub ruled : ℕ → ℕ → Word → Entry

@@ -1,5 +1,4 @@
 -- A fault carried whole inside that of the layer above.
-use Rattle.std.specs.Prelude.{ℕ}
 use Rattle.axis.specs.declared.model.AxisFault.{AxisFault}
 use Rattle.faults.specs.declared.model.SheetFault.{SheetFault}
 use Rattle.faults.specs.declared.model.SheetFault.TheVariants as sheet

@@ -1,7 +1,7 @@
 -- The questions on a row of stays, asked one after the other.
-use Rattle.std.proofs.Common.{◌≡◌, ℕ, zero, suc, ◌+◌, ◌<◌, ◌≤◌, List, [], ◌∷◌, ◌++◌, length, get_or, drop, IfOk, Ok, Err, Result, sym, refl, ap, ◌∙◌, subst, arith}
+use Rattle.std.proofs.Common.{◌≡◌, ℕ, zero, suc, ◌+◌, ◌<◌, ◌≤◌, List, [], ◌∷◌, ◌++◌, length, get_or, drop, IfOk, Ok, Err, Result, sym, ap, subst, arith}
 use Rattle.std.proofs.lemmas.List.{drop_more, drop_all}
-use Rattle.axis.specs.Questions.{Question, AllYes, FirstNo}
+use Rattle.axis.specs.Questions.{AllYes, FirstNo}
 use Rattle.axis.proofs.Asked.{first_no_append, first_no_after, all_yes_append}
 use Rattle.faults.specs.declared.model.SheetFault.{SheetFault}
 use Rattle.journal.specs.declared.model.Stay.{Stay}

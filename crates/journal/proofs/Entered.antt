@@ -1,6 +1,6 @@
 -- The entries of one direction, and how many stand.
 use Rattle.std.proofs.Common.{◌≡◌, ℕ, ◌+◌, ◌-◌, ◌<◌, ◌≤◌, List, [], ◌∷◌, ◌++◌, length, get_or, take, sym, refl, ap, ◌∙◌, subst, arith}
-use Rattle.std.proofs.lemmas.List.{length-append, length_push, take_more, take_all}
+use Rattle.std.proofs.lemmas.List.{length-append, take_more, take_all}
 use Rattle.axis.specs.declared.model.Bound.{Bound}
 use Rattle.boxes.specs.declared.model.Entry.{Entry}
 use Rattle.boxes.specs.declared.model.Direction.{Direction}

@@ -1,5 +1,5 @@
 -- The ranges of good stays: paired and in order; and what they take up.
-use Rattle.std.proofs.Common.{◌≡◌, ℕ, ◌+◌, ◌/◌, ◌<◌, ◌≤◌, List, [], ◌∷◌, ◌++◌, map, length, get_or, take, ℤ, pos, ◌-ℤ◌, ◌≤ℤ◌, sym, refl, ap, ◌∙◌, subst, arith, rules}
+use Rattle.std.proofs.Common.{◌≡◌, ℕ, ◌<◌, ◌≤◌, List, map, length, get_or, ℤ, pos, sym, ap, ◌∙◌, subst, arith}
 use Rattle.std.proofs.lemmas.List.{length-map, get_or-map}
 use Rattle.std.proofs.lemmas.Int.{ints}
 use Rattle.axis.specs.Asks.{InOrder, Paired, Ordered}
@@ -8,7 +8,7 @@ use Rattle.boxes.specs.declared.model.Direction.{Direction}
 use Rattle.boxes.specs.declared.model.Direction.TheVariants.{Time, Platform}
 use Rattle.boxes.specs.Overlaps.{Sized}
 use Rattle.journal.specs.declared.model.Stay.{Stay}
-use Rattle.journal.specs.Stays.{lasts, opens, closes, size_of, no_stay, GoodStay}
+use Rattle.journal.specs.Stays.{size_of, no_stay, GoodStay}
 use Rattle.journal.specs.Journal.{low_on, high_on}
 use Rattle.journal.specs.Asks.{Extents}
 

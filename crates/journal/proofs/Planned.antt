@@ -1,5 +1,5 @@
 -- Placements of a journal's axes, said of its stays and entries.
-use Rattle.std.proofs.Common.{◌≡◌, ℕ, zero, suc, ◌<◌, ◌≤◌, List, [], ◌∷◌, map, length, get_or, ℤ, pos, ◌+ℤ◌, ◌-ℤ◌, ◌≤ℤ◌, sym, refl, ap, ◌∙◌, subst, arith}
+use Rattle.std.proofs.Common.{◌≡◌, ℕ, zero, suc, ◌<◌, ◌≤◌, List, [], ◌∷◌, map, length, get_or, ℤ, pos, ◌-ℤ◌, ◌≤ℤ◌, sym, subst, arith}
 use Rattle.std.specs.List.{ContainsAt as Has, AllByRecursion as All}
 use Rattle.std.proofs.lemmas.List.{length-map, get_or-map}
 use Rattle.std.proofs.ByRecursion.{all-has, all_has_itself, All-weaker}
@@ -10,7 +10,6 @@ use Rattle.boxes.specs.declared.model.Entry.{Entry}
 use Rattle.boxes.specs.declared.model.Direction.{Direction}
 use Rattle.boxes.specs.declared.model.Direction.TheVariants.{Time, Platform}
 use Rattle.boxes.specs.Overlaps.{Keeps}
-use Rattle.boxes.specs.Arranged.{Arrangement}
 use Rattle.journal.specs.Stays.{no_stay}
 use Rattle.journal.specs.Journal.{Journal, kept, bounds_on, low_on, high_on, axis_of}
 use Rattle.journal.specs.Asks.{Plan}

@@ -10,7 +10,6 @@ use Rattle.axis.specs.declared.model.AxisFault.TheVariants as fault
 use Rattle.faults.specs.declared.model.SheetFault.{SheetFault}
 use Rattle.faults.specs.declared.model.SheetFault.TheVariants as refuse
 use Rattle.boxes.specs.declared.model.Place.{Place}
-use Rattle.boxes.specs.declared.model.Entry.{Entry}
 use Rattle.boxes.specs.declared.model.Direction.{Direction}
 use Rattle.boxes.specs.declared.model.Direction.TheVariants.{Time, Platform}
 use Rattle.boxes.specs.Overlaps.{ruled}

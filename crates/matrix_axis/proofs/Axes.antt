@@ -2,7 +2,7 @@
 use Rattle.std.proofs.Common.{◌≡◌, ℕ, ◌<◌, List, ℤ, pos, sym, ◌∙◌, subst, arith}
 use Rattle.axis.specs.Meaning.{Meaning, new, lines}
 use Rattle.axis.specs.Asks.{Named, Tightest}
-use Rattle.axis.specs.Distance.{distance, base, Right}
+use Rattle.axis.specs.Distance.{distance, Right}
 use Rattle.axis.proofs.Tables.{base_self}
 use Rattle.axis.proofs.Distances.{right_near, right_tightest}
 use Rattle.ledger.specs.Means.{means}

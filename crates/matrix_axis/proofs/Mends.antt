@@ -1,5 +1,5 @@
 -- Mending row by row: between the turns every length lies between the mended and the old one.
-use Rattle.std.proofs.Common.{◌≡◌, ℕ, ◌+◌, ◌*◌, ◌<◌, ◌≤◌, ◌≢◌, ◌⊎◌, List, [], ◌∷◌, ◌++◌, length, set, ℤ, pos, ◌+ℤ◌, ◌≤ℤ◌, sym, refl, ap, ◌∙◌, subst, inl, inr, arith}
+use Rattle.std.proofs.Common.{◌≡◌, ℕ, ◌+◌, ◌*◌, ◌<◌, ◌≤◌, ◌≢◌, ◌⊎◌, List, [], ◌∷◌, ◌++◌, length, set, ℤ, pos, ◌≤ℤ◌, sym, refl, ap, ◌∙◌, subst, inl, inr, arith}
 use Rattle.std.specs.Int.{int_min}
 use Rattle.std.specs.List.{ContainsAt as Has}
 use Rattle.std.proofs.lemmas.List.{get_or-set_same, get_or-set_other}
@@ -8,7 +8,7 @@ use Rattle.std.proofs.lemmas.Bool.{cases_eq}
 use Rattle.std.proofs.ByRecursion.{has_append_left, has_push, has_push_cases}
 use Rattle.axis.specs.Asks.{Named}
 use Rattle.axis.specs.Distance.{Table}
-use Rattle.matrix_axis.specs.Cells.{entry, cell, Same}
+use Rattle.matrix_axis.specs.Cells.{cell}
 use Rattle.matrix_axis.specs.Mending.{way, Pending, RowMended, Mended}
 use Rattle.matrix_axis.specs.declared.over.Over.{Over}
 

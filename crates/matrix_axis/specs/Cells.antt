@@ -1,5 +1,5 @@
 -- The table of a matrix axis: thirteen rows of thirteen lengths.
-use Rattle.std.specs.Prelude.{◌≡◌, ℕ, ◌+◌, ◌*◌, ◌<◌, ◌≤◌, List, ℤ, pos, ◌+ℤ◌, ◌≤ℤ◌, slice_index_or}
+use Rattle.std.specs.Prelude.{◌≡◌, ℕ, ◌+◌, ◌*◌, ◌≤◌, List, ℤ, pos, ◌+ℤ◌, ◌≤ℤ◌, slice_index_or}
 use Rattle.axis.specs.Meaning.{Meaning, lines}
 use Rattle.axis.specs.Asks.{Named}
 use Rattle.ledger.specs.Lengths.{Near}

@@ -3,7 +3,7 @@ use Rattle.std.specs.Prelude.{◌≡◌, ℕ, ◌<◌, ◌≤◌, ◌≢◌, ◌
 use Rattle.std.specs.Int.{int_min}
 use Rattle.std.specs.List.{ContainsAt as Has}
 use Rattle.axis.specs.declared.model.Bound.{Bound}
-use Rattle.axis.specs.Asks.{Named, InReach}
+use Rattle.axis.specs.Asks.{InReach}
 use Rattle.axis.specs.Distance.{Table}
 use Rattle.ledger.specs.Lengths.{Near}
 use Rattle.matrix_axis.specs.Cells.{entry, cell, Same}

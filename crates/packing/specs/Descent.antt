@@ -1,5 +1,5 @@
 -- What a descent from some trials answers, and what it leaves as it was.
-use Rattle.std.specs.Prelude.{◌≡◌, ℕ, ◌<◌, ◌≤◌, Bool, true, false, List, map, length, get_or, ℤ, ◌≤ℤ◌, Some, slice_index_or}
+use Rattle.std.specs.Prelude.{◌≡◌, ℕ, ◌<◌, ◌≤◌, Bool, true, false, List, map, length, ℤ, ◌≤ℤ◌, Some, slice_index_or}
 use Rattle.stack.specs.declared.elements.Word.{Word}
 use Rattle.stack.specs.declared.elements.Trial.{Trial}
 use Rattle.axis.specs.Meaning.{Meaning, Placement}
@@ -10,7 +10,7 @@ use Rattle.boxes.specs.Arranged.{step_of, metre_of, KeepsWords}
 
 -- places for all boxes, least under the words of all pairs, those that were there among them
 pub record Reached (time platform : Meaning) (sizes : List Size) (before after : List Trial) (places : List Place) : Type 0 where
-  pub kept : (k : ℕ) → k < length before → (w : Word) → (get_or before k no_trial).word ≡ Some w → slice_index_or after k no_trial ≡ slice_index_or before k no_trial
+  pub kept : (k : ℕ) → k < length before → (w : Word) → (slice_index_or before k no_trial).word ≡ Some w → slice_index_or after k no_trial ≡ slice_index_or before k no_trial
   pub pairs : map pair_of after ≡ map pair_of before
   pub for_each : length places ≡ length sizes
   pub timely : Placement time (step_of places)

@@ -1,5 +1,5 @@
 -- The worked task: three lines, their ranges and one bound.
-use Rattle.std.specs.Prelude.{◌≡◌, ℕ, ◌≤◌, List, [], ◌∷◌, ℤ, pos, neg_ℤ, Ok, Err, Result}
+use Rattle.std.specs.Prelude.{ℕ, ◌≤◌, List, [], ◌∷◌, ℤ, pos, neg_ℤ, Ok, Err, Result}
 use Rattle.axis.specs.Meaning.{Meaning, lines}
 use Rattle.axis.specs.Theory.{EarliestValue, LatestValue}
 use Rattle.axis.specs.declared.model.AxisFault.{AxisFault}

@@ -1,7 +1,6 @@
 -- What a settle with room for every plan tells of them.
-use Rattle.std.proofs.Common.{◌≡◌, ℕ, ◌≤◌, ◌⊎◌, List, length, ℤ, Result, sym, refl, ap, ◌∙◌, subst, inl, inr}
+use Rattle.std.proofs.Common.{◌≡◌, ℕ, ◌≤◌, List, length, ℤ, Result, refl, ap, ◌∙◌, inl, inr}
 use Rattle.stack.specs.declared.elements.Trial.{Trial}
-use Rattle.axis.specs.Meaning.{Meaning}
 use Rattle.axis.specs.Questions.{FirstNo}
 use Rattle.boxes.specs.declared.model.Place.{Place}
 use Rattle.boxes.specs.Order.{pairs}
@@ -12,8 +11,8 @@ use Rattle.text.specs.Texts.{plan_text, no_plan_text}
 use Rattle.text.specs.Prints.{Printed}
 use Rattle.journal.specs.Journal.{Journal}
 use Rattle.journal.specs.Asks.{Plan, settle_asks}
-use Rattle.journal.specs.Steps.{settle, Reply, refused, plan, Settled, Step}
-use Rattle.report.specs.Reports.{Tells, Reported}
+use Rattle.journal.specs.Steps.{settle, plan, Step}
+use Rattle.report.specs.Reports.{Reported}
 
 module _ (k : Journal) (before after : List ℕ) (r : Result ℕ TextFault) where
   module _ (m n : ℕ) (places : length k.stays ≤ m) (trials : pairs (length k.stays) ≤ n) where

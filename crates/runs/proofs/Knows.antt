@@ -7,7 +7,7 @@ use Rattle.journal.specs.declared.model.Stay.{Stay}
 use Rattle.journal.specs.Journal.{Journal, axis_of}
 use Rattle.journal.specs.Steps.{Request, load, Reply, said, Step}
 use Rattle.sheet.specs.declared.Sheet.{Sheet}
-use Rattle.sheet.specs.Standing.{journal_of, Stands, Same, Moves, Loads}
+use Rattle.sheet.specs.Standing.{journal_of, Same, Moves, Loads}
 use Rattle.runs.specs.Runs.{StepFrom, Known}
 
 module _ {T P : Type 0} (f : T → Meaning) (g : P → Meaning) (s s' : Sheet T P) where

@@ -1,5 +1,5 @@
 -- A run with one call more at its end.
-use Rattle.std.proofs.Common.{◌≡◌, ℕ, ◌+◌, ◌<◌, ◌≤◌, List, [], ◌∷◌, ◌++◌, map, length, get_or, take, Option, sym, refl, ap, ◌∙◌, subst}
+use Rattle.std.proofs.Common.{◌≡◌, ℕ, ◌+◌, ◌<◌, List, [], ◌∷◌, ◌++◌, map, length, get_or, take, Option, sym, refl, ap, ◌∙◌, subst}
 use Rattle.std.proofs.lemmas.List.{take_more, length_push, map_push}
 use Rattle.axis.specs.Meaning.{Meaning}
 use Rattle.journal.specs.Journal.{Journal}
@@ -7,7 +7,7 @@ use Rattle.journal.specs.Steps.{Request, Reply}
 use Rattle.sheet.specs.declared.Sheet.{Sheet}
 use Rattle.runs.specs.declared.model.Call.{Call}
 use Rattle.runs.specs.declared.model.Answer.{Answer}
-use Rattle.runs.specs.Runs.{request, reply, StepFrom, RunFrom, Known, Ran}
+use Rattle.runs.specs.Runs.{request, reply, StepFrom, RunFrom, Ran}
 use Rattle.runs.proofs.Knows.{Onward}
 
 snoc : (o : Option Journal) (cs : List Request) (ys : List Reply) (m : Option Journal) (c : Request) (a : Reply) (o' : Option Journal) → RunFrom o cs ys m → StepFrom m c a o' → RunFrom o (cs ++ c ∷ []) (ys ++ a ∷ []) o'

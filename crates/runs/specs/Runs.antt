@@ -1,5 +1,5 @@
 -- Any list of calls on a sheet, told by the journal.
-use Rattle.std.specs.Prelude.{◌≡◌, ℕ, ◌≤◌, Bool, true, false, List, [], ◌∷◌, ◌++◌, map, length, take, Some, None, Ok, Err, vec_items, Option, Result}
+use Rattle.std.specs.Prelude.{◌≡◌, List, [], ◌∷◌, map, length, take, Some, None, Ok, Err, vec_items, Option, Result}
 use Rattle.std.specs.declared.alloc.AllocError.{AllocError}
 use Rattle.axis.specs.Meaning.{Meaning}
 use Rattle.axis.specs.Questions.{FirstNo}

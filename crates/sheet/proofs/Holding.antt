@@ -1,21 +1,19 @@
 -- Two axes that hold a journal: with one entry more, with the newest gone, and what their questions ask of the journal.
-use Rattle.std.proofs.Common.{◌≡◌, ℕ, ◌+◌, ◌-◌, ◌<◌, ◌≤◌, ◌⊎◌, List, [], ◌∷◌, ◌++◌, map, length, take, ℤ, Some, Ok, Err, Result, sym, refl, ap, ◌∙◌, subst, inl, inr, arith}
+use Rattle.std.proofs.Common.{◌≡◌, ℕ, ◌-◌, ◌<◌, ◌≤◌, List, [], ◌∷◌, ◌++◌, length, take, ℤ, Some, Ok, Err, Result, sym, refl, ap, ◌∙◌, subst, inl, inr, arith}
 use Rattle.std.proofs.lemmas.List.{append-nil, length-map, length-append}
-use Rattle.axis.specs.Meaning.{Meaning, lines, with_bound, Remains, Largest}
+use Rattle.axis.specs.Meaning.{Meaning, lines, with_bound, Largest}
 use Rattle.axis.specs.Questions.{AllYes, FirstNo}
-use Rattle.axis.specs.Asks.{Named, put_asks, Back, Tight}
+use Rattle.axis.specs.Asks.{Named, put_asks, Tight}
 use Rattle.axis.specs.declared.model.Bound.{Bound}
 use Rattle.axis.specs.declared.model.AxisFault.{AxisFault}
-use Rattle.axis.specs.declared.model.AxisFault.TheVariants.{Line}
-use Rattle.faults.specs.declared.model.SheetFault.{SheetFault}
 use Rattle.faults.specs.declared.model.SheetFault.TheVariants as refuse
 use Rattle.boxes.specs.declared.model.Entry.{Entry}
 use Rattle.boxes.specs.declared.model.Direction.{Direction}
 use Rattle.boxes.specs.declared.model.Direction.TheVariants.{Time, Platform}
 use Rattle.boxes.specs.Overlaps.{in_direction}
 use Rattle.moves.specs.Moves.{PutOn, BackOn}
-use Rattle.moves.proofs.Grown.{put_grows, back_grown}
-use Rattle.journal.specs.Journal.{Journal, with_entry, without_newest, kept, bounds_on, low_on, axis_of}
+use Rattle.moves.proofs.Grown.{back_grown}
+use Rattle.journal.specs.Journal.{Journal, with_entry, without_newest, bounds_on, low_on, axis_of}
 use Rattle.journal.specs.Asks.{entry_asks}
 use Rattle.journal.specs.Tables.{Newest}
 use Rattle.journal.specs.Steps.{withdraw, done, Step}

@@ -1,5 +1,5 @@
 -- What a packing of the stays' sizes tells of the journal's plans.
-use Rattle.std.proofs.Common.{◌≡◌, ℕ, ◌≤◌, Bool, true, false, List, [], ◌∷◌, ◌++◌, map, length, take, drop, replicate, ℤ, sym, refl, ap, ◌∙◌, subst, inl, inr}
+use Rattle.std.proofs.Common.{◌≡◌, ℕ, ◌≤◌, Bool, true, false, List, map, length, take, refl, ap, ◌∙◌, subst, inl, inr}
 use Rattle.std.proofs.lemmas.List.{length-map}
 use Rattle.stack.specs.declared.elements.Trial.{Trial}
 use Rattle.axis.specs.Meaning.{Meaning}
@@ -13,7 +13,7 @@ use Rattle.journal.specs.declared.model.Stay.{Stay}
 use Rattle.journal.specs.Stays.{size_of}
 use Rattle.journal.specs.Journal.{Journal, axis_of, sizes_of}
 use Rattle.faults.specs.declared.model.SheetFault.TheVariants.{NoPlan}
-use Rattle.journal.specs.Steps.{settle, plan, refused, Settled, Step}
+use Rattle.journal.specs.Steps.{settle, plan, refused, Step}
 use Rattle.sheet.specs.Standing.{Held, Judged, Filled}
 
 module _ (old new : List Place) (before after : List Trial) where

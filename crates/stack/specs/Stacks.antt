@@ -1,5 +1,5 @@
 -- What the calls on a stack do.
-use Rattle.std.specs.Prelude.{◌≡◌, ℕ, ◌+◌, ◌<◌, List, [], ◌∷◌, ◌++◌, length, take, Ok, Err, Result, slice_index_or, slice_set}
+use Rattle.std.specs.Prelude.{◌≡◌, ◌+◌, ◌<◌, List, [], ◌∷◌, ◌++◌, length, take, Ok, Err, Result, slice_index_or, slice_set}
 use Rattle.std.specs.Borrow.{GName}
 use Rattle.stack.specs.declared.Stack.{Stack}
 use Rattle.stack.specs.declared.fault.StackFault.{StackFault}

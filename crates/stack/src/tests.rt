@@ -8,7 +8,7 @@ use std::test::Fail;
 fn once<E: Blank + Copy>(slots: &mut [E], x: E) -> Result<E, StackFault>
     requires { 0 < length slots.old }
     ensures answer { result ≡ Ok x }
-    ensures after { slots.new ≡ slice_set slots.old 0 nothing }
+    ensures after { slots.new ≡ slice_set slots.old 0 E.nothing }
 {
     let mut stack = Stack::new(slots);
     stack.push(x)?;

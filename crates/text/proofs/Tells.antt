@@ -1,11 +1,11 @@
 -- A text tells the numbers in it, since the byte that ends a number is no digit.
-use Rattle.std.proofs.Common.{◌≡◌, ℕ, ◌+◌, ◌^◌, ◌<◌, ◌≤◌, List, [], ◌∷◌, ◌++◌, length, decimal, sym, refl, ap, ◌∙◌, arith, length-append}
+use Rattle.std.proofs.Common.{◌≡◌, ℕ, ◌+◌, ◌^◌, ◌<◌, ◌≤◌, List, [], ◌∷◌, ◌++◌, length, decimal, sym, refl, ap, arith, length-append}
 use Rattle.std.specs.List.{AllByRecursion as All}
 use Rattle.std.proofs.lemmas.Fmt.{decimal_by_steps, decimal_injective}
 use Rattle.std.proofs.ByRecursion.{All-push}
 use Rattle.std.proofs.lemmas.List.{append_cancel_left}
 use Rattle.boxes.specs.declared.model.Place.{Place}
-use Rattle.text.specs.Tells.{Short, Held, PlanTextTells}
+use Rattle.text.specs.Tells.{Short, PlanTextTells}
 use Rattle.text.specs.Texts.{number_then, stay_lines, space, newline}
 
 abbrev Digit : ℕ → Type 0

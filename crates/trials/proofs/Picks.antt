@@ -1,5 +1,5 @@
 -- One trial more is considered.
-use Rattle.std.proofs.Common.{◌≡◌, ℕ, ◌+◌, ◌<◌, true, false, List, length, get_or, is_some, Some, None, Option, sym, refl, ap, ◌∙◌, subst, inl, inr, arith, below_more}
+use Rattle.std.proofs.Common.{◌≡◌, ℕ, ◌+◌, true, List, get_or, is_some, Some, None, Option, sym, ap, subst, inl, inr, arith, below_more}
 use Rattle.std.proofs.lemmas.Bool.{false≢true}
 use Rattle.stack.specs.declared.elements.Word.{Word}
 use Rattle.stack.specs.declared.elements.Trial.{Trial}

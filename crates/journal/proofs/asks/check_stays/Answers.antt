@@ -1,4 +1,3 @@
-use Rattle.std.proofs.Common.{rules}
 use Rattle.std.proofs.lemmas.Result.{err_from_is_err_and}
 use Rattle.journal.proofs.Asked.{leads_more, leads_refused, leads_all}
 use Rattle.journal.proofs.asks.check_stays.Goals as goal

@@ -1,4 +1,3 @@
-use Rattle.std.proofs.Common.{rules}
 use Rattle.journal.proofs.Entered.{count_more, count_all}
 use Rattle.journal.proofs.entries.count_in.Goals as goal
 

@@ -1,5 +1,5 @@
-use Rattle.std.proofs.Common.{sym, ◌∙◌, arith, w16, SFits, rules}
-use Rattle.std.proofs.lemmas.Int.{ints, to_z-of_z}
+use Rattle.std.proofs.Common.{sym, arith, w16, SFits, rules}
+use Rattle.std.proofs.lemmas.Int.{ints}
 use Rattle.axis.proofs.Tables.{base_self, base_over}
 use Rattle.ledger.specs.Means.{means}
 use Rattle.ledger.proofs.Ledger.direct.Goals as goal

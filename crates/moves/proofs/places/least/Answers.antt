@@ -1,5 +1,5 @@
-use Rattle.std.proofs.Common.{◌≡◌, pos, nat_abs, subst, arith, w16, SFits, to_z, of_z, rules}
-use Rattle.std.proofs.lemmas.Int.{ints, to_z-of_z}
+use Rattle.std.proofs.Common.{subst, arith, w16, SFits, rules}
+use Rattle.std.proofs.lemmas.Int.{ints}
 use Rattle.axis.specs.Theory.{EarliestValue}
 use Rattle.moves.proofs.Least.{value_ahead}
 use Rattle.moves.proofs.places.least.Goals as goal

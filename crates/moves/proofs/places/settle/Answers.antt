@@ -1,4 +1,4 @@
-use Rattle.std.proofs.Common.{◌≡◌, ◌+◌, pos}
+use Rattle.std.proofs.Common.{◌+◌, pos}
 use Rattle.axis.specs.Theory.{EarliestValue}
 use Rattle.std.proofs.lemmas.List.{length-set}
 use Rattle.moves.specs.Settled.{nowhere}

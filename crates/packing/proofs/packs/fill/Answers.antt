@@ -1,5 +1,4 @@
-use Rattle.std.proofs.Common.{◌≡◌, ◌≤◌, length, ap, ◌∙◌, arith, rules}
-use Rattle.stack.specs.Stacks.{contents, memory}
+use Rattle.std.proofs.Common.{◌≤◌, length, arith, rules}
 use Rattle.packing.proofs.Starts.{node_start, room_start, filled}
 use Rattle.packing.proofs.packs.fill.Goals as goal
 

@@ -1,4 +1,4 @@
-use Rattle.std.proofs.Common.{Ok, ap, ◌∙◌, arith}
+use Rattle.std.proofs.Common.{Ok, ap, arith}
 use Rattle.platform.proofs.Worked.{span_is, times_are}
 use Rattle.platform.proofs.task.task.Goals as goal
 

@@ -1,4 +1,4 @@
-use Rattle.std.proofs.Common.{◌≡◌, ◌-◌, length, take, ap, ◌∙◌, arith, rules}
+use Rattle.std.proofs.Common.{◌≡◌, ◌-◌, length, take, ap, ◌∙◌, arith}
 use Rattle.boxes.proofs.Ordered.{pairs_few}
 use Rattle.journal.specs.Journal.{Journal}
 use Rattle.sheet.specs.Standing.{journal_of}

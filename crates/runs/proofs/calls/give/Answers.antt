@@ -1,4 +1,4 @@
-use Rattle.std.proofs.Common.{sym, refl, ap, ◌∙◌, rules}
+use Rattle.std.proofs.Common.{sym, refl, ap, ◌∙◌}
 use Rattle.journal.specs.Steps.{load}
 use Rattle.runs.specs.Runs.{request}
 use Rattle.runs.proofs.Knows.{onward, load_onward}

@@ -1,4 +1,4 @@
-use Rattle.std.proofs.Common.{◌≡◌, ◌-◌, length, take, sym, refl, ap, ◌∙◌, arith, rules}
+use Rattle.std.proofs.Common.{◌≡◌, ◌-◌, length, take, refl, ap, ◌∙◌, arith}
 use Rattle.boxes.specs.Order.{pairs}
 use Rattle.journal.specs.Journal.{Journal}
 use Rattle.sheet.specs.Standing.{journal_of}

@@ -1,4 +1,4 @@
-use Rattle.std.proofs.Common.{◌≤◌, length, arith, rules}
+use Rattle.std.proofs.Common.{◌≤◌, length, rules}
 use Rattle.boxes.specs.Order.{pairs}
 use Rattle.boxes.proofs.Ordered.{pairs_few}
 use Rattle.sheet.specs.Standing.{journal_of}

@@ -1,4 +1,4 @@
-use Rattle.std.proofs.Common.{◌≡◌, ◌<◌, length, sym, refl, ap, ◌∙◌, subst, rules}
+use Rattle.std.proofs.Common.{◌<◌, length, refl, ap, rules}
 use Rattle.std.proofs.lemmas.Result.{err_from_is_err_and}
 use Rattle.journal.specs.Journal.{bounds_on}
 use Rattle.sheet.specs.Standing.{journal_of}

@@ -1,4 +1,4 @@
-use Rattle.std.proofs.Common.{◌≡◌, sym, refl, ◌∙◌, subst, rules}
+use Rattle.std.proofs.Common.{sym, ◌∙◌, subst}
 use Rattle.std.proofs.lemmas.Bool.{false≢true}
 use Rattle.boxes.specs.declared.model.Direction.TheVariants.{Time, Platform}
 use Rattle.sheet.specs.Standing.{journal_of, HasLines}

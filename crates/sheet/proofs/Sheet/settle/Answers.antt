@@ -1,4 +1,4 @@
-use Rattle.std.proofs.Common.{◌≡◌, ◌≤◌, [], length, refl, rules}
+use Rattle.std.proofs.Common.{◌≤◌, [], length, refl, rules}
 use Rattle.boxes.specs.Order.{pairs}
 use Rattle.sheet.specs.Standing.{journal_of}
 use Rattle.sheet.proofs.Judged.{settled_plan, settled_none}

@@ -1,4 +1,4 @@
-use Rattle.std.proofs.Common.{◌≡◌, length, vec_items, ap, arith, rules}
+use Rattle.std.proofs.Common.{ap}
 use Rattle.sheet.specs.Standing.{journal_of}
 use Rattle.sheet.proofs.Holding.{withdrawn, some_entry}
 use Rattle.sheet.proofs.Sheet.withdraw.Goals as goal

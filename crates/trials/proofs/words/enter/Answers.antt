@@ -1,4 +1,4 @@
-use Rattle.std.proofs.Common.{◌≡◌, ◌<◌, length, refl, arith}
+use Rattle.std.proofs.Common.{◌<◌, length, refl, arith}
 use Rattle.stack.specs.Stacks.{contents, memory}
 use Rattle.trials.proofs.Nodes.{open_some, put_refuted, put_grown, entered}
 use Rattle.trials.proofs.words.enter.Goals as goal

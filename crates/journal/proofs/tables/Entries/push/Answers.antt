@@ -1,4 +1,4 @@
-use Rattle.std.proofs.Common.{◌<◌, length, vec_items, sym, subst, arith, rules}
+use Rattle.std.proofs.Common.{◌<◌, length, vec_items, sym, subst, rules}
 use Rattle.boxes.specs.declared.model.Direction.TheVariants.{Time, Platform}
 use Rattle.journal.proofs.Entered.{FewOn, push_few, push_room}
 use Rattle.journal.proofs.tables.Entries.push.Goals as goal

@@ -1,4 +1,4 @@
-use Rattle.std.proofs.Common.{◌≡◌, ◌≤◌, map, take, vec_items, vec_len, vec_capacity}
+use Rattle.std.proofs.Common.{◌≡◌, map, take, vec_items, vec_len}
 use Rattle.journal.specs.Journal.{low_on, high_on}
 use Rattle.journal.proofs.tables.Ranges.line_up.Given as goal
 

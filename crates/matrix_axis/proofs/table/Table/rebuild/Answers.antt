@@ -1,11 +1,10 @@
-use Rattle.std.proofs.Common.{◌≡◌, ℕ, ◌<◌, ◌≤◌, List, length, get_or, take, pos, sym, refl, ap, ◌∙◌, subst, rules}
+use Rattle.std.proofs.Common.{◌<◌, ◌≤◌, length, get_or, pos, sym, ap, ◌∙◌, subst}
 use Rattle.std.proofs.lemmas.List.{take_all}
 use Rattle.std.proofs.ByRecursion.{has_get_or}
 use Rattle.axis.specs.declared.model.Bound.{Bound}
 use Rattle.axis.specs.Meaning.{lines}
 use Rattle.axis.specs.Asks.{Within}
 use Rattle.axis.specs.Distance.{base, mend, mended}
-use Rattle.ledger.specs.declared.Ledger.{Ledger}
 use Rattle.ledger.specs.Means.{means}
 use Rattle.matrix_axis.specs.Cells.{cell, Same, Closed}
 use Rattle.matrix_axis.proofs.Kept.{oldest_closed, oldest_more}
