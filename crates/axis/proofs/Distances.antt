@@ -1,7 +1,7 @@
 -- The computed lengths are right wherever no ring is negative, and none is where a placement exists.
 use Rattle.std.proofs.Common.{◌≡◌, ℕ, zero, suc, ◌≤◌, true, T, List, [], ◌∷◌, ◌++◌, length, ℤ, pos, ◌+ℤ◌, ◌-ℤ◌, neg_ℤ, ◌≤ℤ◌, ◌<ℤ◌, Ok, Err, Result, sym, refl, ◌∙◌, subst, inl, inr, append_assoc, append-nil, arith}
 use lib.Signed.{le_z, le_z_yes}
-use Rattle.std.specs.List.{ContainsAt as Has, AllByRecursion as All}
+use Rattle.std.specs.List.{ContainsAt, AllByRecursion}
 use Rattle.std.proofs.lemmas.Int.{ints, by_lt_z}
 use Rattle.std.proofs.lemmas.Bool.{and_parts, and_from}
 use Rattle.std.proofs.ByRecursion.{has_push_cases, all_has_itself, All-weaker}
@@ -35,10 +35,10 @@ open_head t b bs o = let x = and_parts _ _ o in (opens _ x.0, x.1)
 open_cons : (t : Table) (b : Bound) (bs : List Bound) → pos 0 ≤ℤ (b.d +ℤ t b.q b.p) → open_from (mend t b) bs ≡ true → open_from t (b ∷ bs) ≡ true
 open_cons t b bs h o = and_from _ _ (let z : le_z (pos 0) (b.d +ℤ t b.q b.p) ≡ true = grind (arith, ints) in z) o
 
-pub all_within : (n : ℕ) (bs : List Bound) → AllWithin n bs → All (Within n) bs
-all_within n bs h = All-weaker (Has bs) (Within n) h bs (all_has_itself bs)
+pub all_within : (n : ℕ) (bs : List Bound) → AllWithin n bs → AllByRecursion (Within n) bs
+all_within n bs h = All-weaker (ContainsAt bs) (Within n) h bs (all_has_itself bs)
 
-right_mended : (m : Meaning) (t : Table) (bs : List Bound) → Right m t → All (Within (lines m)) bs → open_from t bs ≡ true → Right (with_bounds m bs) (mended t bs)
+right_mended : (m : Meaning) (t : Table) (bs : List Bound) → Right m t → AllByRecursion (Within (lines m)) bs → open_from t bs ≡ true → Right (with_bounds m bs) (mended t bs)
 right_mended m t [] r n o = subst (λ l. Right (record { lows = m.lows; highs = m.highs; bounds = l }) t) (sym (append-nil m.bounds)) r
 right_mended m t (b ∷ bs) r n o =
     let x = open_head t b bs o in
@@ -52,7 +52,7 @@ pub distance_right : (m : Meaning) → Paired m.lows m.highs → Ordered m.lows 
 distance_right m paired ordered within o =
     right_mended (bare m) (base m.lows m.highs) m.bounds (base_right m paired ordered) (all_within (lines m) m.bounds within) o
 
-open_kept : (m : Meaning) (t : Table) (bs : List Bound) → Right m t → All (Within (lines m)) bs → (v : ℕ → ℤ) → Placement m v → All (λ b. (v b.p -ℤ v b.q) ≤ℤ b.d) bs → open_from t bs ≡ true
+open_kept : (m : Meaning) (t : Table) (bs : List Bound) → Right m t → AllByRecursion (Within (lines m)) bs → (v : ℕ → ℤ) → Placement m v → AllByRecursion (λ b. (v b.p -ℤ v b.q) ≤ℤ b.d) bs → open_from t bs ≡ true
 open_kept m t [] r n v w k = refl
 open_kept m t (b ∷ bs) r n v w k =
     let a = walk_kept m v w b.q b.p _ (r.walk b.q b.p n.0.0.1 n.0.0.0) in
@@ -66,7 +66,7 @@ pub open_placed : (m : Meaning) → Paired m.lows m.highs → Ordered m.lows m.h
 open_placed m paired ordered within (v, w) =
     open_kept (bare m) (base m.lows m.highs) m.bounds (base_right m paired ordered) (all_within (lines m) m.bounds within) v
     (record { above = w.above; below = w.below; keeps = λ b h. let z = h.1 in absurd (omega arith) })
-    (All-weaker (Has m.bounds) (λ b. (v b.p -ℤ v b.q) ≤ℤ b.d) (λ b h. w.keeps b h) m.bounds (all_has_itself m.bounds))
+    (All-weaker (ContainsAt m.bounds) (λ b. (v b.p -ℤ v b.q) ≤ℤ b.d) (λ b h. w.keeps b h) m.bounds (all_has_itself m.bounds))
 
 pub valid_right : (most : ℕ) (m : Meaning) → Valid most m → Right m (distance m)
 valid_right most m v = distance_right m v.paired v.ordered v.within (open_placed m v.paired v.ordered v.within v.placed)

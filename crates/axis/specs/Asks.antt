@@ -1,6 +1,6 @@
 -- What each call of an axis asks, in its order, what it answers and what it leaves.
 use Rattle.std.specs.Prelude.{◌≡◌, ℕ, ◌<◌, ◌≤◌, List, [], ◌∷◌, ◌++◌, length, ℤ, pos, neg_ℤ, ◌≤ℤ◌, Ok, Err, Result, slice_index_or}
-use Rattle.std.specs.List.{ContainsAt as Has}
+use Rattle.std.specs.List.{ContainsAt}
 use Rattle.axis.specs.Questions.{Question, AllYes, FirstNo}
 use Rattle.axis.specs.Meaning.{Meaning, with_bound, lines, Remains, Largest, Shortest}
 use Rattle.axis.specs.declared.model.Bound.{Bound}
@@ -39,7 +39,7 @@ abbrev pub Within : ℕ → Bound → Type 0
 Within n b = Named n b.p b.q × InReach b.d
 
 abbrev pub AllWithin : ℕ → List Bound → Type 0
-AllWithin n bs = (b : Bound) → Has bs b → Within n b
+AllWithin n bs = (b : Bound) → ContainsAt bs b → Within n b
 
 -- what holds of every axis at every time
 pub record Valid (most : ℕ) (m : Meaning) : Type 0 where

@@ -1,6 +1,6 @@
 -- What an axis means: lines with ranges, standing bounds, placements, and the walks of its distance graph.
 use Rattle.std.specs.Prelude.{◌≡◌, ℕ, ◌≤◌, List, [], ◌∷◌, ◌++◌, length, ℤ, pos, ◌+ℤ◌, ◌-ℤ◌, neg_ℤ, ◌≤ℤ◌, ◌<ℤ◌, slice_index_or}
-use Rattle.std.specs.List.{ContainsAt as Has}
+use Rattle.std.specs.List.{ContainsAt}
 use Rattle.axis.specs.declared.model.Bound.{Bound}
 
 -- lines 1 to n, each with a low and a high; the standing bounds, oldest first
@@ -33,7 +33,7 @@ high m r = at_line m.highs r
 pub record Placement (m : Meaning) (v : ℕ → ℤ) : Type 0 where
   pub above : (r : ℕ) → r ≤ lines m → low m r ≤ℤ v r
   pub below : (r : ℕ) → r ≤ lines m → v r ≤ℤ high m r
-  pub keeps : (b : Bound) → Has m.bounds b → (v b.p -ℤ v b.q) ≤ℤ b.d
+  pub keeps : (b : Bound) → ContainsAt m.bounds b → (v b.p -ℤ v b.q) ≤ℤ b.d
 
 -- some placement exists
 abbrev pub Remains : Meaning → Type 0
@@ -51,7 +51,7 @@ pub record Earliest (m : Meaning) (v : ℕ → ℤ) : Type 0 where
 
 -- the distance graph: an edge of length d for each bound, to 0 of length high, from 0 of length minus low
 pub data Edge (m : Meaning) : ℕ → ℕ → ℤ → Type 0 where
-  bound : (b : Bound) → Has m.bounds b → Edge m b.p b.q b.d
+  bound : (b : Bound) → ContainsAt m.bounds b → Edge m b.p b.q b.d
   down : (p : ℕ) → p ≤ lines m → Edge m p 0 (high m p)
   up : (q : ℕ) → q ≤ lines m → Edge m 0 q (neg_ℤ (low m q))
 

@@ -1,6 +1,6 @@
 -- The order of trials has every pair of boxes, and nothing else.
 use Rattle.std.proofs.Common.{◌≡◌, ℕ, zero, suc, ◌+◌, ◌-◌, ◌*◌, ◌/◌, ◌<◌, ◌≤◌, List, map, length, get_or, ℤ, Some, None, Option, sym, refl, ap, ◌∙◌, subst, inl, inr, suc-mul, mul-le-mul, mul-suc, mul-div_cancel, arith}
-use Rattle.std.specs.List.{range_with_len, ContainsAt as Has, AllByRecursion as All}
+use Rattle.std.specs.List.{range_with_len, ContainsAt, AllByRecursion}
 use Rattle.std.proofs.lemmas.List.{length-append, length-map, get_or-map}
 use Rattle.std.proofs.ByRecursion.{All-append, All-from_get_or, All-get_or, all-has, All-weaker, has_append_left, has_append_right}
 use Rattle.std.proofs.lemmas.List.FromFn.{length-map-range_with_len, get_or-map-range_with_len}
@@ -39,7 +39,7 @@ pairs_few n few =
     omega arith
 
 -- those of the boxes from i to i + c
-from_has : (i c a b : ℕ) → i ≤ a → a < b → b ≤ i + c → Has (pairs_from i c) (with a b)
+from_has : (i c a b : ℕ) → i ≤ a → a < b → b ≤ i + c → ContainsAt (pairs_from i c) (with a b)
 from_has i zero a b ha hab hb = absurd (omega arith)
 from_has i (suc c) a b ha hab hb =
     let row = map (with i) (range_with_len (i + 1) (suc c)) in
@@ -55,7 +55,7 @@ from_has i (suc c) a b ha hab hb =
 abbrev Within : ℕ → ℕ → Pair → Type 0
 Within i n p = (i ≤ p.first) × (p.first < p.second) × (p.second ≤ n)
 
-from_within : (i c n : ℕ) → n ≡ i + c → All (Within i n) (pairs_from i c)
+from_within : (i c n : ℕ) → n ≡ i + c → AllByRecursion (Within i n) (pairs_from i c)
 from_within i zero n e = tt
 from_within i (suc c) n e =
     let row = map (with i) (range_with_len (i + 1) (suc c)) in
@@ -65,10 +65,10 @@ from_within i (suc c) n e =
     subst (Within i n) (sym (get_or-map-range_with_len (with i) (i + 1) (suc c) k (i + 1 + k) (with 0 0) (omega arith) refl)) (omega arith, omega arith, omega arith)))
     (All-weaker (Within (i + 1) n) (Within i n) (λ p w. (omega arith, w.1, w.2)) (pairs_from (i + 1) c) (from_within (i + 1) c n (omega arith)))
 
-pub order_has : (n i j : ℕ) → 1 ≤ i → i < j → j ≤ n → Has (trial_order n) (record { first = i; second = j })
+pub order_has : (n i j : ℕ) → 1 ≤ i → i < j → j ≤ n → ContainsAt (trial_order n) (record { first = i; second = j })
 order_has n i j hi hij hj = from_has 1 (n - 1) i j hi hij (omega arith)
 
-pub order_within : (n : ℕ) (p : Pair) → Has (trial_order n) p → (1 ≤ p.first) × (p.first < p.second) × (p.second ≤ n)
+pub order_within : (n : ℕ) (p : Pair) → ContainsAt (trial_order n) p → (1 ≤ p.first) × (p.first < p.second) × (p.second ≤ n)
 order_within zero p h = let z = h.1 in absurd (omega arith)
 order_within (suc m) p h = all-has (Within 1 (suc m)) (pairs_from 1 (suc m - 1)) p (from_within 1 (suc m - 1) (suc m) (omega arith)) h
 
@@ -79,7 +79,7 @@ module _ (sizes : List Size) (x y : ℕ → ℤ) where
 
   pub all_words_free : (ts : List Trial) → map pair_of ts ≡ trial_order (length sizes) → KeepsWords sizes x y ts → Free sizes x y
   all_words_free ts e h i j hi hij hj =
-      let (k, l, same) = subst (λ ps. Has ps (with i j)) (sym e) (order_has (length sizes) i j hi hij hj) in
+      let (k, l, same) = subst (λ ps. ContainsAt ps (with i j)) (sym e) (order_has (length sizes) i j hi hij hj) in
       let n : k < length ts = omega (arith, length-map ts pair_of) in
       let t = get_or ts k no_trial in
       let p : pair_of t ≡ with i j = sym (get_or-map pair_of ts k no_trial (with 0 0) n) ∙ same (with 0 0) in

@@ -1,6 +1,6 @@
 -- Arrangements of boxes on two axes, and what a search for one answers.
 use Rattle.std.specs.Prelude.{◌≡◌, ℕ, ◌≤◌, List, map, length, ℤ, pos, ◌≤ℤ◌, Some, None, Option}
-use Rattle.std.specs.List.{AllByRecursion as All}
+use Rattle.std.specs.List.{AllByRecursion}
 use Rattle.stack.specs.declared.elements.Word.{Word}
 use Rattle.stack.specs.declared.elements.Trial.{Trial}
 use Rattle.axis.specs.Meaning.{Meaning, at_line, Placement}
@@ -23,7 +23,7 @@ module _ (sizes : List Size) where
 
   -- every trial has a word that holds
   abbrev pub KeepsWords : (ℕ → ℤ) → (ℕ → ℤ) → List Trial → Type 0
-  KeepsWords x y ts = All (λ t. HoldsTrial x y t.i t.j t.word) ts
+  KeepsWords x y ts = AllByRecursion (λ t. HoldsTrial x y t.i t.j t.word) ts
 
 module _ (time platform : Meaning) (sizes : List Size) where
   -- placements of both axes without overlap

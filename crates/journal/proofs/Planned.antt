@@ -1,6 +1,6 @@
 -- Placements of a journal's axes, said of its stays and entries.
 use Rattle.std.proofs.Common.{◌≡◌, ℕ, zero, suc, ◌<◌, ◌≤◌, List, [], ◌∷◌, map, length, get_or, ℤ, pos, ◌-ℤ◌, ◌≤ℤ◌, sym, subst, arith}
-use Rattle.std.specs.List.{ContainsAt as Has, AllByRecursion as All}
+use Rattle.std.specs.List.{ContainsAt, AllByRecursion}
 use Rattle.std.proofs.lemmas.List.{length-map, get_or-map}
 use Rattle.std.proofs.ByRecursion.{all-has, all_has_itself, All-weaker}
 use Rattle.std.proofs.lemmas.Int.{ints}
@@ -22,7 +22,7 @@ KeepsBound v b = (v b.p -ℤ v b.q) ≤ℤ b.d
 record Lines (d : Direction) (k : Journal) (v : ℕ → ℤ) : Type 0 where
   start : v 0 ≡ pos 0
   within : (i : ℕ) → i < length k.stays → (low_on d (get_or k.stays i no_stay) ≤ℤ v (suc i)) × (v (suc i) ≤ℤ high_on d k.span k.platform (get_or k.stays i no_stay))
-  keeps : All (KeepsBound v) (bounds_on d k.entries)
+  keeps : AllByRecursion (KeepsBound v) (bounds_on d k.entries)
 
 module _ (d : Direction) (k : Journal) (v : ℕ → ℤ) where
   low_at : (i : ℕ) → i < length k.stays → get_or (map (low_on d) k.stays) i (pos 0) ≡ low_on d (get_or k.stays i no_stay)
@@ -40,7 +40,7 @@ module _ (d : Direction) (k : Journal) (v : ℕ → ℤ) where
     within = λ i less.
         let r : suc i ≤ lines (axis_of d k) = omega (arith, count) in
         (subst (λ (z : ℤ). z ≤ℤ v (suc i)) (low_at i less) (p.above (suc i) r), subst (λ (z : ℤ). v (suc i) ≤ℤ z) (high_at i less) (p.below (suc i) r));
-    keeps = All-weaker (Has (bounds_on d k.entries)) (KeepsBound v) (λ b h. p.keeps b h) (bounds_on d k.entries) (all_has_itself (bounds_on d k.entries));
+    keeps = All-weaker (ContainsAt (bounds_on d k.entries)) (KeepsBound v) (λ b h. p.keeps b h) (bounds_on d k.entries) (all_has_itself (bounds_on d k.entries));
   }
 
   module _ (l : Lines d k v) where
@@ -56,22 +56,22 @@ module _ (d : Direction) (k : Journal) (v : ℕ → ℤ) where
     lines_placed = record { above = above; below = below; keeps = λ b h. all-has (KeepsBound v) (bounds_on d k.entries) b l.keeps h }
 
 module _ (x y : ℕ → ℤ) where
-  split : (d : Direction) (b : Bound) (ts ps : List Bound) → All (KeepsBound x) (kept Time d b ts) → All (KeepsBound y) (kept Platform d b ps)
-      → Keeps x y (record { direction = d; bound = b }) × (All (KeepsBound x) ts × All (KeepsBound y) ps)
+  split : (d : Direction) (b : Bound) (ts ps : List Bound) → AllByRecursion (KeepsBound x) (kept Time d b ts) → AllByRecursion (KeepsBound y) (kept Platform d b ps)
+      → Keeps x y (record { direction = d; bound = b }) × (AllByRecursion (KeepsBound x) ts × AllByRecursion (KeepsBound y) ps)
   split Time b ts ps t p = (t.0, (t.1, p))
   split Platform b ts ps t p = (p.0, (t, p.1))
 
-  joined : (d : Direction) (b : Bound) (ts ps : List Bound) → Keeps x y (record { direction = d; bound = b }) → All (KeepsBound x) ts → All (KeepsBound y) ps
-      → All (KeepsBound x) (kept Time d b ts) × All (KeepsBound y) (kept Platform d b ps)
+  joined : (d : Direction) (b : Bound) (ts ps : List Bound) → Keeps x y (record { direction = d; bound = b }) → AllByRecursion (KeepsBound x) ts → AllByRecursion (KeepsBound y) ps
+      → AllByRecursion (KeepsBound x) (kept Time d b ts) × AllByRecursion (KeepsBound y) (kept Platform d b ps)
   joined Time b ts ps e t p = ((e, t), p)
   joined Platform b ts ps e t p = (t, (e, p))
 
   -- the entries are kept when the bounds of both directions are
-  entries_kept : (es : List Entry) → All (KeepsBound x) (bounds_on Time es) → All (KeepsBound y) (bounds_on Platform es) → All (Keeps x y) es
+  entries_kept : (es : List Entry) → AllByRecursion (KeepsBound x) (bounds_on Time es) → AllByRecursion (KeepsBound y) (bounds_on Platform es) → AllByRecursion (Keeps x y) es
   entries_kept [] t p = tt
   entries_kept (e ∷ es) t p = let s = split e.direction e.bound (bounds_on Time es) (bounds_on Platform es) t p in (s.0, entries_kept es s.1.0 s.1.1)
 
-  bounds_kept : (es : List Entry) → All (Keeps x y) es → All (KeepsBound x) (bounds_on Time es) × All (KeepsBound y) (bounds_on Platform es)
+  bounds_kept : (es : List Entry) → AllByRecursion (Keeps x y) es → AllByRecursion (KeepsBound x) (bounds_on Time es) × AllByRecursion (KeepsBound y) (bounds_on Platform es)
   bounds_kept [] h = (tt, tt)
   bounds_kept (e ∷ es) h = let r = bounds_kept es h.1 in joined e.direction e.bound (bounds_on Time es) (bounds_on Platform es) h.0 r.0 r.1
 

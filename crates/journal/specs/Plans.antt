@@ -1,6 +1,6 @@
 -- What a plan is, said of the stays themselves.
 use Rattle.std.specs.Prelude.{◌≡◌, ℕ, suc, ◌<◌, length, ℤ, pos, ◌+ℤ◌, ◌≤ℤ◌, slice_index_or}
-use Rattle.std.specs.List.{AllByRecursion as All}
+use Rattle.std.specs.List.{AllByRecursion}
 use Rattle.axis.specs.Theory.{Equally}
 use Rattle.boxes.specs.Overlaps.{Keeps, Free}
 use Rattle.journal.specs.Stays.{lasts, opens, closes, no_stay}
@@ -17,7 +17,7 @@ pub record Kept (k : Journal) (x y : ℕ → ℤ) : Type 0 where
   pub platform : (i : ℕ) → i < length k.stays
       → (pos 0 ≤ℤ y (suc i)) × ((y (suc i) +ℤ pos (slice_index_or k.stays i no_stay).metres) ≤ℤ pos k.platform)
   -- every entry is kept
-  pub entries : All (Keeps x y) k.entries
+  pub entries : AllByRecursion (Keeps x y) k.entries
   -- no two stays hold a common step and a common metre
   pub free : Free (sizes_of k) x y
 

@@ -1,6 +1,6 @@
 -- What relaxing one edge does to a row of walks, and how such steps add up.
 use Rattle.std.proofs.Common.{◌≡◌, ℕ, ◌+◌, ◌<◌, ◌≤◌, Bool, true, false, cond, ◌||◌, ◌≢◌, List, length, get_or, take, set, ℤ, pos, ◌+ℤ◌, neg_ℤ, ◌≤ℤ◌, ◌<ℤ◌, sym, refl, ap, ◌∙◌, subst, inl, inr, arith, length-set, get_or-set_other, get_or-set_same}
-use Rattle.std.specs.List.{ContainsAt as Has}
+use Rattle.std.specs.List.{ContainsAt}
 use Rattle.std.proofs.lemmas.List.{take_more}
 use Rattle.std.proofs.ByRecursion.{has_get_or, has_push_cases}
 use Rattle.std.proofs.lemmas.Int.{ints}
@@ -99,13 +99,13 @@ module _ (l : Ledger) (o : Open (means l)) (row : List ℤ) (b : Bound) (e : Edg
 
 -- one bound more
 pub bounds_more : (bs : List Bound) (i : ℕ) (d : Bound) → i < length bs → (row : List ℤ) → BoundsKept (take i bs) row × Kept (get_or bs i d) row → BoundsKept (take (i + 1) bs) row
-bounds_more bs i d h row k b x = elim (has_push_cases (take i bs) (get_or bs i d) b (subst (λ xs. Has xs b) (take_more bs i d h) x)) [
+bounds_more bs i d h row k b x = elim (has_push_cases (take i bs) (get_or bs i d) b (subst (λ xs. ContainsAt xs b) (take_more bs i d h) x)) [
   | inl y ↦ k.0 b y
   | inr e ↦ subst (λ c. Kept c row) e k.1
 ]
 
-pub bound_stands : (l : Ledger) (bs : List Bound) (i : ℕ) (d : Bound) → bs ≡ (means l).bounds → i < length bs → Has (means l).bounds (get_or bs i d)
-bound_stands l bs i d e h = subst (λ xs. Has xs (get_or bs i d)) e (has_get_or bs i d h)
+pub bound_stands : (l : Ledger) (bs : List Bound) (i : ℕ) (d : Bound) → bs ≡ (means l).bounds → i < length bs → ContainsAt (means l).bounds (get_or bs i d)
+bound_stands l bs i d e h = subst (λ xs. ContainsAt xs (get_or bs i d)) e (has_get_or bs i d h)
 
 -- both edges of a range
 module _ (l : Ledger) (o : Open (means l)) (row : List ℤ) (s : ℕ) (f : Found (means l) s row) (r : ℕ) (h : r ≤ lines (means l)) (b : Bound) (x : Bool) where

@@ -1,6 +1,6 @@
 -- A row of lengths from one line: what it holds at any time, what relaxing edges does to it, and what it tells in the end.
 use Rattle.std.specs.Prelude.{◌≡◌, ℕ, suc, ◌+◌, ◌-◌, ◌<◌, ◌≤◌, Bool, true, false, cond, List, [], ◌∷◌, length, ℤ, pos, negsuc, ◌+ℤ◌, neg_ℤ, ◌≤ℤ◌, ◌<ℤ◌, int_lt, slice_index_or, slice_set}
-use Rattle.std.specs.List.{ContainsAt as Has}
+use Rattle.std.specs.List.{ContainsAt}
 use Rattle.axis.specs.declared.model.Bound.{Bound}
 use Rattle.axis.specs.Meaning.{Meaning, with_bound, lines, low, high, Remains, Walk}
 use Rattle.axis.specs.Asks.{Tightest}
@@ -35,7 +35,7 @@ abbrev pub Kept : Bound → List ℤ → Type 0
 Kept b row = entry row b.q ≤ℤ (entry row b.p +ℤ b.d)
 
 abbrev pub BoundsKept : List Bound → List ℤ → Type 0
-BoundsKept bs row = (b : Bound) → Has bs b → Kept b row
+BoundsKept bs row = (b : Bound) → ContainsAt bs b → Kept b row
 
 -- the range of line r, as bounds against line 0
 abbrev pub highest : Meaning → ℕ → Bound

@@ -1,7 +1,7 @@
 -- Worklists: one line more, and all lines from 0 on.
 use Rattle.std.proofs.Common.{◌≡◌, ℕ, ◌+◌, ◌<◌, ◌≤◌, ◌⊎◌, List, [], ◌∷◌, ◌++◌, length, ℤ, ◌+ℤ◌, ◌≤ℤ◌, sym, subst, inl, inr, arith, below_more}
 use Rattle.std.proofs.lemmas.Int.{ints}
-use Rattle.std.specs.List.{ContainsAt as Has}
+use Rattle.std.specs.List.{ContainsAt}
 use Rattle.std.proofs.lemmas.List.{length_push}
 use Rattle.std.proofs.ByRecursion.{has_append_left, has_push, has_push_cases}
 use Rattle.matrix_axis.specs.Cells.{entry}
@@ -18,8 +18,8 @@ noted_push before after r e = subst (Noted before r) (sym e) (record {
 -- the lines below r are listed
 pub record ListedBelow (r : ℕ) (ways : List ℤ) (d : ℤ) (known : List ℤ) (list : List ℕ) : Type 0 where
   pub few : length list ≤ r
-  pub all : (x : ℕ) → x < r → Has list x ⊎ (entry known x ≤ℤ (entry ways x +ℤ d))
-  pub within : (x : ℕ) → Has list x → x < r
+  pub all : (x : ℕ) → x < r → ContainsAt list x ⊎ (entry known x ≤ℤ (entry ways x +ℤ d))
+  pub within : (x : ℕ) → ContainsAt list x → x < r
 
 module _ (ways known : List ℤ) (d : ℤ) where
   pub listed_none : ListedBelow 0 ways d known []

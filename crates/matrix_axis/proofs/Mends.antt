@@ -1,7 +1,7 @@
 -- Mending row by row: between the turns every length lies between the mended and the old one.
 use Rattle.std.proofs.Common.{◌≡◌, ℕ, ◌+◌, ◌*◌, ◌<◌, ◌≤◌, ◌≢◌, ◌⊎◌, List, [], ◌∷◌, ◌++◌, length, set, ℤ, pos, ◌≤ℤ◌, sym, refl, ap, ◌∙◌, subst, inl, inr, arith}
 use Rattle.std.specs.Int.{int_min}
-use Rattle.std.specs.List.{ContainsAt as Has}
+use Rattle.std.specs.List.{ContainsAt}
 use Rattle.std.proofs.lemmas.List.{get_or-set_same, get_or-set_other}
 use Rattle.std.proofs.lemmas.Int.{ints, clamps}
 use Rattle.std.proofs.lemmas.Bool.{cases_eq}
@@ -50,7 +50,7 @@ row_more o i j columns before mid after x hi hj len r e s = record {
   there : (k : ℕ) → k < 13 → k ≢ j → cell after i k ≡ cell mid i k
   there k hk ne = other i k hk (λ q. ne (omega arith))
 
-  later : (k : ℕ) → Has columns k → cell mid i k ≤ℤ way o i k → cell after i k ≤ℤ way o i k
+  later : (k : ℕ) → ContainsAt columns k → cell mid i k ≤ℤ way o i k → cell after i k ≤ℤ way o i k
   later k h q = elim (cases_eq k j) [
     | inl p ↦ (let w = here k p in omega (arith, ints, clamps))
     | inr p ↦ (let z : i * 13 + k ≢ i * 13 + j = λ u. p (omega arith) in let w : cell after i k ≡ cell mid i k = subst (λ c. cell c i k ≡ cell mid i k) (sym s) (get_or-set_other mid (i * 13 + j) (i * 13 + k) _ (pos 0) z) in omega (arith, ints))
@@ -59,8 +59,8 @@ row_more o i j columns before mid after x hi hj len r e s = record {
 -- the rows that are no longer listed are mended
 pub record Mending (n : ℕ) (t : Table) (o : Over) (rows : List ℕ) (cells : List ℤ) : Type 0 where
   pub between : (i j : ℕ) → Named n i j → (int_min (t i j) (way o i j) ≤ℤ cell cells i j) × (cell cells i j ≤ℤ t i j)
-  pub mended : (i : ℕ) → i ≤ n → Has rows i ⊎ ((j : ℕ) → j ≤ n → cell cells i j ≤ℤ way o i j)
-  pub within : (i : ℕ) → Has rows i → i ≤ n
+  pub mended : (i : ℕ) → i ≤ n → ContainsAt rows i ⊎ ((j : ℕ) → j ≤ n → cell cells i j ≤ℤ way o i j)
+  pub within : (i : ℕ) → ContainsAt rows i → i ≤ n
 
 module _ (n : ℕ) (o : Over) (columns : List ℕ) (start : List ℤ) (few : n ≤ 12) where
   pub mending_none : (rows : List ℕ) → Pending n (cell start) o rows columns → Mending n (cell start) o rows start
@@ -78,16 +78,16 @@ module _ (n : ℕ) (o : Over) (columns : List ℕ) (start : List ℤ) (few : n �
       | inr q ↦ (let w = r.others a j q (omega (arith, h.1)) in let b = m.between a j h in (omega (arith, ints, b.0), omega (arith, ints, b.1)))
     ];
     mended = λ a h. elim (m.mended a h) [
-      | inl x ↦ elim (has_push_cases rows i a (subst (λ xs. Has xs a) e x)) [
+      | inl x ↦ elim (has_push_cases rows i a (subst (λ xs. ContainsAt xs a) e x)) [
         | inl y ↦ inl y
         | inr q ↦ inr (λ j k. subst (λ u. cell after u j ≤ℤ way o u j) q (done j k))
       ]
       | inr x ↦ inr (λ j k. let b = x j k in let w = sinks a j (h, k) in omega (arith, ints))
     ];
-    within = λ a h. m.within a (subst (λ xs. Has xs a) (sym e) (has_append_left rows (i ∷ []) a h));
+    within = λ a h. m.within a (subst (λ xs. ContainsAt xs a) (sym e) (has_append_left rows (i ∷ []) a h));
   } where
     listed : i ≤ n
-    listed = m.within i (subst (λ xs. Has xs i) (sym e) (has_push rows i))
+    listed = m.within i (subst (λ xs. ContainsAt xs i) (sym e) (has_push rows i))
 
     here : (j : ℕ) → Named n i j → (int_min (cell start i j) (way o i j) ≤ℤ cell after i j) × (cell after i j ≤ℤ cell start i j)
     here j h = let b = m.between i j h in let lo = r.lower j (omega (arith, h.1)) in let fl = r.floor j (omega (arith, h.1)) in (omega (arith, ints, clamps, b.0, b.1), omega (arith, ints, b.1))

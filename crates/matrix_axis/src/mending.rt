@@ -1,7 +1,7 @@
 // Mending the table after a bound: only the listed rows and columns, in place.
 ghost use Rattle.std.specs.Prelude.{◌≡◌, ℕ, ◌+◌, ◌*◌, ◌<◌, ◌≤◌, length, slice_set};
 ghost use Rattle.std.specs.Int.{int_min};
-ghost use Rattle.std.specs.List.{ContainsAt as Has};
+ghost use Rattle.std.specs.List.{ContainsAt};
 ghost use Rattle.stack.specs.Stacks.{contents};
 ghost use Rattle.axis.specs.Asks.{Within};
 ghost use Rattle.axis.specs.Distance.{mend};
@@ -27,7 +27,7 @@ impl Table {
 
     fn mend_row(&mut self, n: usize, i: usize, over: &Over, columns: &[u8])
         requires within { (i ≤ n) × (n ≤ 12) }
-        requires listed { (j : ℕ) → Has columns.now j → j ≤ n }
+        requires listed { (j : ℕ) → ContainsAt columns.now j → j ≤ n }
         requires short { Short n over.now }
         ensures { RowMended over.now i columns.now self.old.cells self.new.cells }
     {

@@ -1,6 +1,6 @@
 -- What the answer from the node below says of a descent's node.
 use Rattle.std.proofs.Common.{◌≡◌, ℕ, ◌<◌, ◌≤◌, Bool, true, false, List, length, get_or, set, ℤ, is_some, Some, None, Option, sym, refl, ap, ◌∙◌, subst, inl, inr, arith}
-use Rattle.std.specs.List.{ContainsAt as Has}
+use Rattle.std.specs.List.{ContainsAt}
 use Rattle.std.proofs.lemmas.List.{length-set, length-map, get_or-set_same, get_or-set_other, set-set, set-get_or}
 use Rattle.std.proofs.lemmas.Bool.{cases_eq, false≢true}
 use Rattle.std.proofs.ByRecursion.{All-get_or, All-from_get_or}
@@ -100,7 +100,7 @@ reached_all t p sizes ts places node all size et ep = record {
       (λ k h. holds (get_or ts k no_trial).i (get_or ts k no_trial).j (get_or ts k no_trial).word (all k h) (All-get_or (Stands t p sizes) ts k no_trial h node.standing));
   least = λ x y a b words i h. (et.least x a i (omega (arith, node.timed)), ep.least y b i (omega (arith, node.placed)));
 } where
-  keeps : (d : Direction) (b : Bound) → Has (in_direction t p d).bounds b → Keeps (step_of places) (metre_of places) (record { direction = d; bound = b })
+  keeps : (d : Direction) (b : Bound) → ContainsAt (in_direction t p d).bounds b → Keeps (step_of places) (metre_of places) (record { direction = d; bound = b })
   keeps Time b h = et.placed.keeps b h
   keeps Platform b h = ep.placed.keeps b h
 

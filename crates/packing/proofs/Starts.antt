@@ -1,6 +1,6 @@
 -- Where a descent starts: no pair has its word; and what its end says of the whole.
 use Rattle.std.proofs.Common.{◌≡◌, ℕ, ◌≤◌, Bool, true, false, List, [], ◌∷◌, ◌++◌, map, length, take, drop, replicate, sym, refl, ap, ◌∙◌, subst, arith}
-use Rattle.std.specs.List.{AllByRecursion as All}
+use Rattle.std.specs.List.{AllByRecursion}
 use Rattle.std.proofs.lemmas.List.{take_at, drop_at, take-append-drop}
 use Rattle.std.proofs.lemmas.Bool.{false≢true}
 use Rattle.stack.specs.declared.elements.Trial.{Trial}
@@ -23,7 +23,7 @@ open_laid : (xs : List Pair) → open_count (map untried xs) ≡ length xs
 open_laid [] = refl
 open_laid (x ∷ xs) = let e = open_laid xs in omega arith
 
-stands_laid : (t p : Meaning) (sizes : List Size) (xs : List Pair) → All (Stands t p sizes) (map untried xs)
+stands_laid : (t p : Meaning) (sizes : List Size) (xs : List Pair) → AllByRecursion (Stands t p sizes) (map untried xs)
 stands_laid t p sizes [] = tt
 stands_laid t p sizes (x ∷ xs) = (tt, stands_laid t p sizes xs)
 
@@ -34,7 +34,7 @@ module _ (t p : Meaning) (sizes : List Size) (ts : List Trial) (laid : ts ≡ ma
     timed = et;
     placed = ep;
     in_order = ap (map pair_of) laid ∙ pairs_laid (trial_order (length sizes));
-    standing = subst (All (Stands t p sizes)) (sym laid) (stands_laid t p sizes (trial_order (length sizes)));
+    standing = subst (AllByRecursion (Stands t p sizes)) (sym laid) (stands_laid t p sizes (trial_order (length sizes)));
   }
 
   pub room_start : (ht hp used space : ℕ) → length sizes ≤ 12 → 90 ≤ ht → 90 ≤ hp → length t.bounds ≤ 24 → length p.bounds ≤ 24 → used ≡ 0 → space ≡ 66 → Room ht hp t p used space ts

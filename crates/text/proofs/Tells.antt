@@ -1,6 +1,6 @@
 -- A text tells the numbers in it, since the byte that ends a number is no digit.
 use Rattle.std.proofs.Common.{◌≡◌, ℕ, ◌+◌, ◌^◌, ◌<◌, ◌≤◌, List, [], ◌∷◌, ◌++◌, length, decimal, sym, refl, ap, arith, length-append}
-use Rattle.std.specs.List.{AllByRecursion as All}
+use Rattle.std.specs.List.{AllByRecursion}
 use Rattle.std.proofs.lemmas.Fmt.{decimal_by_steps, decimal_injective}
 use Rattle.std.proofs.ByRecursion.{All-push}
 use Rattle.std.proofs.lemmas.List.{append_cancel_left}
@@ -11,12 +11,12 @@ use Rattle.text.specs.Texts.{number_then, stay_lines, space, newline}
 abbrev Digit : ℕ → Type 0
 Digit b = 48 ≤ b
 
-digits_decimal : (n : ℕ) → n < 2 ^ 64 → All Digit (decimal n)
+digits_decimal : (n : ℕ) → n < 2 ^ 64 → AllByRecursion Digit (decimal n)
 digits_decimal =
-    decimal_by_steps (λ n ds. All Digit ds) (λ n h. (omega arith, tt)) (λ n ds h a. All-push Digit ds _ a (omega arith))
+    decimal_by_steps (λ n ds. AllByRecursion Digit ds) (λ n h. (omega arith, tt)) (λ n ds h a. All-push Digit ds _ a (omega arith))
 
 -- two runs of digits, each ended by the same mark
-same_digits : (ds es xs ys : List ℕ) (mark : ℕ) → mark < 48 → All Digit ds → All Digit es → ds ++ mark ∷ xs ≡ es ++ mark ∷ ys → (ds ≡ es) × (xs ≡ ys)
+same_digits : (ds es xs ys : List ℕ) (mark : ℕ) → mark < 48 → AllByRecursion Digit ds → AllByRecursion Digit es → ds ++ mark ∷ xs ≡ es ++ mark ∷ ys → (ds ≡ es) × (xs ≡ ys)
 same_digits [] [] xs ys mark h a b e = (refl, cc)
 same_digits [] (c ∷ es) xs ys mark h a b e = let c-is : mark ≡ c = cc in absurd (omega arith)
 same_digits (d ∷ ds) [] xs ys mark h a b e = let d-is : d ≡ mark = cc in absurd (omega arith)
@@ -38,7 +38,7 @@ some_number : (n mark : ℕ) (xs : List ℕ) → [] ≡ number_then n mark xs �
 some_number n mark xs e = omega (arith, simp length-append at (ap length e))
 
 -- the same number of a stay, so the same stay, and so the same stays after it
-stays_tell : (n : ℕ) (ps qs : List Place) → All Short ps → All Short qs → stay_lines n ps ≡ stay_lines n qs → ps ≡ qs
+stays_tell : (n : ℕ) (ps qs : List Place) → AllByRecursion Short ps → AllByRecursion Short qs → stay_lines n ps ≡ stay_lines n qs → ps ≡ qs
 stays_tell n [] [] a b e = refl
 stays_tell n [] (q ∷ qs) a b e = absurd (some_number n _ _ e)
 stays_tell n (p ∷ ps) [] a b e = absurd (some_number n _ _ (sym e))

@@ -1,6 +1,6 @@
 -- A node and the one below it: a word more stands, and it can be taken back.
 use Rattle.std.proofs.Common.{◌≡◌, ℕ, zero, suc, ◌+◌, ◌<◌, ◌≤◌, Bool, true, false, List, [], ◌∷◌, ◌++◌, map, length, get_or, set, ℤ, Some, None, Ok, Err, Option, Result, sym, refl, ap, ◌∙◌, subst, arith}
-use Rattle.std.specs.List.{ContainsAt as Has}
+use Rattle.std.specs.List.{ContainsAt}
 use Rattle.std.proofs.lemmas.List.{length-map, get_or-map, set-get_or, map-set, length_push, same_from_push}
 use Rattle.std.proofs.ByRecursion.{has_get_or, has_push, has_append_left, All-set, All-weaker}
 use Rattle.stack.specs.declared.elements.Word.{Word}
@@ -47,7 +47,7 @@ module _ (t p : Meaning) (sizes : List Size) (ts : List Trial) (node : Node t p 
       let e = get_or-map pair_of ts k no_trial (pair_of no_trial) h in
       let l : k < length (map pair_of ts) = omega (arith, length-map ts pair_of) in
       let x = has_get_or (map pair_of ts) k (pair_of no_trial) l in
-      order_within (length sizes) _ (subst (λ q. Has q (pair_of (get_or ts k no_trial))) node.in_order (subst (Has (map pair_of ts)) e x))
+      order_within (length sizes) _ (subst (λ q. ContainsAt q (pair_of (get_or ts k no_trial))) node.in_order (subst (ContainsAt (map pair_of ts)) e x))
 
   pub pair_within : ((1 ≤ (get_or ts k no_trial).i) × ((get_or ts k no_trial).i ≤ length sizes)) × ((1 ≤ (get_or ts k no_trial).j) × ((get_or ts k no_trial).j ≤ length sizes))
   pair_within = let y = in_trial_order in ((y.0, omega (arith, y.1, y.2)), (omega (arith, y.0, y.1), y.2))
@@ -87,17 +87,17 @@ module _ (t p : Meaning) (sizes : List Size) (ts : List Trial) (node : Node t p 
       put_grown u put = put_grows t p (entry_of sizes ts k w).bound (entry_of sizes ts k w).direction ht hp t' p' u (on_entry (Ok u) put)
 
     -- what stood stands, and the bound of the word too
-    has_grown : (d : Direction) (c b : Bound) → Has (in_direction t p d).bounds c → Has (in_direction (in_direction (with_bound t b) t (entry_of sizes ts k w).direction) (in_direction p (with_bound p b) (entry_of sizes ts k w).direction) d).bounds c
+    has_grown : (d : Direction) (c b : Bound) → ContainsAt (in_direction t p d).bounds c → ContainsAt (in_direction (in_direction (with_bound t b) t (entry_of sizes ts k w).direction) (in_direction p (with_bound p b) (entry_of sizes ts k w).direction) d).bounds c
     has_grown d c b = grow d (entry_of sizes ts k w).direction where
-      grow : (d e : Direction) → Has (in_direction t p d).bounds c → Has (in_direction (in_direction (with_bound t b) t e) (in_direction p (with_bound p b) e) d).bounds c
+      grow : (d e : Direction) → ContainsAt (in_direction t p d).bounds c → ContainsAt (in_direction (in_direction (with_bound t b) t e) (in_direction p (with_bound p b) e) d).bounds c
       grow Time Time x = has_append_left t.bounds (b ∷ []) c x
       grow Time Platform x = x
       grow Platform Time x = x
       grow Platform Platform x = has_append_left p.bounds (b ∷ []) c x
 
-    has_new : (b : Bound) → Has (in_direction (in_direction (with_bound t b) t (entry_of sizes ts k w).direction) (in_direction p (with_bound p b) (entry_of sizes ts k w).direction) (entry_of sizes ts k w).direction).bounds b
+    has_new : (b : Bound) → ContainsAt (in_direction (in_direction (with_bound t b) t (entry_of sizes ts k w).direction) (in_direction p (with_bound p b) (entry_of sizes ts k w).direction) (entry_of sizes ts k w).direction).bounds b
     has_new b = new (entry_of sizes ts k w).direction where
-      new : (e : Direction) → Has (in_direction (in_direction (with_bound t b) t e) (in_direction p (with_bound p b) e) e).bounds b
+      new : (e : Direction) → ContainsAt (in_direction (in_direction (with_bound t b) t e) (in_direction p (with_bound p b) e) e).bounds b
       new Time = has_push t.bounds b
       new Platform = has_push p.bounds b
 

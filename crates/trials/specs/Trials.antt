@@ -1,6 +1,6 @@
 -- Trials on two axes, some of which have their words: what holds of them, and what one word more does.
 use Rattle.std.specs.Prelude.{◌≡◌, ℕ, zero, suc, ◌+◌, ◌<◌, ◌≤◌, Bool, true, false, ◌⊎◌, List, [], ◌∷◌, ◌++◌, map, length, ℤ, is_some, Some, None, Option, Result, slice_index_or, slice_set}
-use Rattle.std.specs.List.{ContainsAt as Has, AllByRecursion as All}
+use Rattle.std.specs.List.{ContainsAt, AllByRecursion}
 use Rattle.stack.specs.declared.elements.Word.{Word}
 use Rattle.stack.specs.declared.elements.Word.TheVariants.{Before, After, Nearer, Farther}
 use Rattle.stack.specs.declared.elements.Trial.{Trial}
@@ -30,7 +30,7 @@ module _ (time platform : Meaning) (sizes : List Size) where
   -- the bound of the word stands
   abbrev pub StandsWord : ℕ → ℕ → Option Word → Type 0
   StandsWord i j None = Unit {0}
-  StandsWord i j (Some w) = Has (in_direction time platform (ruled sizes i j w).direction).bounds (ruled sizes i j w).bound
+  StandsWord i j (Some w) = ContainsAt (in_direction time platform (ruled sizes i j w).direction).bounds (ruled sizes i j w).bound
 
   abbrev pub Stands : Trial → Type 0
   Stands t = StandsWord t.i t.j t.word
@@ -41,7 +41,7 @@ pub record Node (time platform : Meaning) (sizes : List Size) (trials : List Tri
   pub timed : lines time ≡ length sizes
   pub placed : lines platform ≡ length sizes
   pub in_order : map pair_of trials ≡ trial_order (length sizes)
-  pub standing : All (Stands time platform sizes) trials
+  pub standing : AllByRecursion (Stands time platform sizes) trials
 
 -- there is room for a bound on each axis, and for a record, for every pair that is open
 pub record Room (most-time most-platform : ℕ) (time platform : Meaning) (used space : ℕ) (trials : List Trial) : Type 0 where

@@ -1,6 +1,6 @@
 use Rattle.std.proofs.Common.{◌≡◌, [], take, sym, ap, subst}
 use Rattle.std.proofs.ByRecursion.{has_push}
-use Rattle.std.specs.List.{ContainsAt as Has}
+use Rattle.std.specs.List.{ContainsAt}
 use Rattle.stack.specs.Stacks.{contents, memory}
 use Rattle.matrix_axis.proofs.Mends.{Mending, mending_none, mending_more, mending_all}
 use Rattle.matrix_axis.specs.Cells.{cell}
@@ -11,7 +11,7 @@ loop-i-init c = mending_none _ _ _ _ c.requires.few _ c.requires.pending
 
 pub mend_row-requires : goal.mend_row-requires
 mend_row-requires c =
-    let listed = c.loop-i.invariant.within c.in-Ok.i (subst (λ xs. Has xs c.in-Ok.i) (sym c.in-Ok.ensures.after.items) (has_push _ _)) in
+    let listed = c.loop-i.invariant.within c.in-Ok.i (subst (λ xs. ContainsAt xs c.in-Ok.i) (sym c.in-Ok.ensures.after.items) (has_push _ _)) in
     record { within = (listed, c.requires.few); listed = c.requires.pending.column_within; short = c.requires.short }
 
 pub loop-i-preserved : goal.loop-i-preserved
