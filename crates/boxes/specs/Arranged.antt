@@ -1,4 +1,4 @@
--- Arrangements of boxes on two axes, and what a search for one answers.
+-- Arrangements of boxes on two axes, and what is answered to whoever asks for one.
 use Rattle.std.specs.Prelude.{◌≡◌, ℕ, ◌≤◌, List, map, length, ℤ, pos, ◌≤ℤ◌, Some, None, Option}
 use Rattle.std.specs.List.{AllByRecursion}
 use Rattle.stack.specs.declared.elements.Word.{Word}

@@ -45,6 +45,6 @@ pub fn clear(trials: &mut [Trial])
     ensures { trials.new ≡ replicate (length trials.old) no_trial }
 {
     for k in 0..trials.len() {
-        trials[k] = <Trial as stack::Blank>::blank();
+        trials[k] = <Trial as Blank>::blank();
     }
 }
