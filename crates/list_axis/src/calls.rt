@@ -3,7 +3,7 @@ ghost use Rattle.std.specs.Prelude.{◌≡◌, IfOk};
 ghost use Rattle.axis.specs.Meaning.{new};
 ghost use Rattle.ledger.specs.Means.{means};
 ghost use Rattle.ledger.proofs.Open.{ledger_valid};
-ghost use Rattle.std.proofs.Common.{rules, arith};
+ghost use Rattle.std.proofs.Common.{rules};
 
 use crate::ListAxis;
 use crate::lengths::lengths_from;
@@ -27,7 +27,7 @@ impl Axis for ListAxis {
 
     ghost means = { λ a. means a.ledger };
 
-    ghost roomy = { first_of (Prim.search rules, Prim.grind (arith, Self.row.coded.inj)) };
+    ghost roomy = { Prim.search rules };
 
     ghost valid = { λ a. ledger_valid a.ledger a.open };
 

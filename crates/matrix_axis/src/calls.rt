@@ -6,7 +6,7 @@ ghost use Rattle.axis.specs.Distance.{distance};
 ghost use Rattle.ledger.specs.Lengths.{Near};
 ghost use Rattle.ledger.specs.Means.{means};
 ghost use Rattle.ledger.proofs.Open.{ledger_valid};
-ghost use Rattle.std.proofs.Common.{rules, arith};
+ghost use Rattle.std.proofs.Common.{rules};
 
 use crate::MatrixAxis;
 use crate::table::Table;
@@ -58,7 +58,7 @@ impl Axis for MatrixAxis {
 
     ghost means = { λ a. means a.ledger };
 
-    ghost roomy = { first_of (Prim.search rules, Prim.grind (arith, Self.row.coded.inj)) };
+    ghost roomy = { Prim.search rules };
 
     ghost valid = { λ a. ledger_valid a.ledger a.«open» };
 
