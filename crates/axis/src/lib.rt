@@ -17,13 +17,15 @@ pub trait Axis {
     // the most bounds that the axis holds
     const MOST: usize;
 
-    ghost holds: { ℕ };
+    ghost MOST: { ℕ };
 
     ghost means: { Self → Meaning };
 
-    // MOST, as generic code can reason about it
     fn capacity() -> usize
-        ensures { result ≡ holds };
+        ensures { result ≡ MOST }
+    {
+        Self::MOST
+    }
 
     // New lines 1, 2 .. with these ranges, and no bounds.
     fn reset(&mut self, lows: &[i16], highs: &[i16]) -> Result<(), AxisFault>
@@ -31,7 +33,7 @@ pub trait Axis {
 
     // One bound more, the newest.
     fn put(&mut self, bound: Bound) -> Result<(), AxisFault>
-        ensures { Put holds (means self.old) bound result (means self.new) };
+        ensures { Put MOST (means self.old) bound result (means self.new) };
 
     // The newest bound is gone.
     fn back(&mut self) -> Result<(), AxisFault>
@@ -45,7 +47,7 @@ pub trait Axis {
     fn count(&self) -> usize
         ensures { result ≡ length (means self.now).bounds };
 
-    ghost roomy: { 90 ≤ holds };
+    ghost roomy: { 90 ≤ MOST };
 
-    ghost valid: { (a : Self) → Valid holds (means a) };
+    ghost valid: { (a : Self) → Valid MOST (means a) };
 }

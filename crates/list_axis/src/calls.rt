@@ -22,17 +22,13 @@ impl ListAxis {
 impl Axis for ListAxis {
     const MOST: usize = 90;
 
-    ghost holds = { 90 };
+    ghost MOST = { 90 };
 
     ghost means = { λ a. means a.ledger };
 
     ghost roomy = { ledger_roomy };
 
     ghost valid = { λ a. ledger_valid a.ledger a.open };
-
-    fn capacity() -> usize {
-        Self::MOST
-    }
 
     fn reset(&mut self, lows: &[i16], highs: &[i16]) -> Result<(), AxisFault> {
         self.ledger.reset(lows, highs)
