@@ -3,11 +3,14 @@
 
 ghost use Rattle.std.specs.Prelude.{◌≤◌, length, vec_capacity};
 ghost use Rattle.axis.specs.Asks.{Paired, Ordered, AllWithin};
+ghost use Rattle.ledger.specs.Ranges.{every_low, every_high};
 
 use axis::Bound;
+use ranges::Range;
 
 mod asks;
 mod changes;
+mod ranges;
 mod sums;
 
 pub use sums::{along, lesser};
@@ -15,12 +18,11 @@ pub use sums::{along, lesser};
 // Memory is reserved for all that is ever held, so no call fails for want of it.
 #[derive(Drop)]
 pub struct Ledger {
-    lows: Vec<i16>,
-    highs: Vec<i16>,
+    ranges: Vec<Range>,
     bounds: Vec<Bound>,
-    ghost room: { (12 ≤ vec_capacity lows) × (12 ≤ vec_capacity highs) × (90 ≤ vec_capacity bounds) },
-    ghost paired: { Paired lows.items highs.items },
-    ghost ordered: { Ordered lows.items highs.items },
-    ghost within: { AllWithin (length lows.items) bounds.items },
+    ghost room: { (12 ≤ vec_capacity ranges) × (90 ≤ vec_capacity bounds) },
+    ghost paired: { Paired (every_low ranges.items) (every_high ranges.items) },
+    ghost ordered: { Ordered (every_low ranges.items) (every_high ranges.items) },
+    ghost within: { AllWithin (length (every_low ranges.items)) bounds.items },
     ghost few: { length bounds.items ≤ 90 },
 }
