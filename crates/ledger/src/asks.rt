@@ -26,7 +26,7 @@ impl Ledger {
         if line == 0 {
             Range { low: 0, high: 0 }
         } else {
-            self.ranges[line - 1]
+            self.ranges.as_slice()[line - 1]
         }
     }
 

@@ -1,5 +1,5 @@
 // How a ledger begins and changes.
-ghost use Rattle.std.specs.Prelude.{◌≡◌, ℕ, ◌<◌, ◌≤◌, true, false, [], ◌∷◌, ◌++◌, length, IfOk, vec_capacity};
+ghost use Rattle.std.specs.Prelude.{◌≡◌, ℕ, ◌<◌, ◌≤◌, true, false, [], ◌∷◌, ◌++◌, length, IfOk};
 ghost use Rattle.axis.specs.Meaning.{new, lines, with_bound};
 ghost use Rattle.axis.specs.Asks.{Reset, Within, Paired, Ordered};
 ghost use Rattle.axis.specs.Distance.{Open};
@@ -9,14 +9,15 @@ ghost use Rattle.ledger.specs.Ranges.{every_low, every_high};
 use crate::Ledger;
 use crate::ranges::Range;
 use axis::{AxisFault, Bound};
+use held::Held;
 use std::alloc::{AllocError, Global};
 
 impl Ledger {
     pub fn new(heap: Global) -> Result<Ledger, AllocError>
         ensures { IfOk result (λ l. means l ≡ new) }
     {
-        let ranges = Vec::with_capacity(heap, 12)?;
-        let bounds = Vec::with_capacity(heap, 90)?;
+        let ranges = Held::new(heap)?;
+        let bounds = Held::new(heap)?;
         Ok(Ledger { ranges, bounds })
     }
 
@@ -40,7 +41,7 @@ impl Ledger {
         requires space { length (means self.old).bounds < 90 }
         ensures { means self.new ≡ with_bound (means self.old) bound }
     {
-        self.bounds.push_reserved(bound);
+        self.bounds.push(bound);
     }
 
     // The newest bound goes.
@@ -48,24 +49,19 @@ impl Ledger {
         ensures after { Gone (means self.old) result (means self.new) }
         ensures opens { Open (means self.old) → Open (means self.new) }
     {
-        match self.bounds.pop() {
-            Some(bound) => Ok(bound),
-            None => Err(AxisFault::NoBound),
-        }
+        self.bounds.pop().ok_or(AxisFault::NoBound)
     }
 }
 
-// Puts these ranges in place of those that were there, in the memory that is reserved.
-fn refill(kept: &mut Vec<Range>, lows: &[i16], highs: &[i16])
-    requires reserved { 12 ≤ vec_capacity kept.old }
-    requires paired { Paired lows.now highs.now }
-    ensures least { every_low kept.new.items ≡ lows.now }
-    ensures greatest { every_high kept.new.items ≡ highs.now }
-    ensures capacity { 12 ≤ vec_capacity kept.new }
+// Puts these ranges in place of those that were there.
+fn refill(ranges: &mut Held<Range, 12>, lows: &[i16], highs: &[i16])
+    requires { Paired lows.now highs.now }
+    ensures least { every_low ranges.new ≡ lows.now }
+    ensures greatest { every_high ranges.new ≡ highs.now }
 {
-    kept.clear();
+    ranges.clear();
     for (&low, &high) in lows.iter().zip(highs) {
-        kept.push_reserved(Range { low, high });
+        ranges.push(Range { low, high });
     }
 }
 
@@ -75,5 +71,7 @@ fn ordered(lows: &[i16], highs: &[i16]) -> bool
     ensures yes { result ≡ true → Ordered lows.now highs.now }
     ensures no { result ≡ false → Ordered lows.now highs.now → ⊥ }
 {
-    lows.iter().zip(highs).all(|(&low, &high)| Range { low, high }.in_order())
+    lows.iter()
+        .zip(highs)
+        .all(|(&low, &high)| Range { low, high }.in_order())
 }
