@@ -1,53 +1,47 @@
 -- The ways over a bound, read off a table, and what the worklists leave out.
-use Rattle.std.proofs.Common.{◌≡◌, ℕ, ◌<◌, ◌≤◌, List, ℤ, ◌+ℤ◌, sym, ap, ◌∙◌, inl, inr, arith}
+use Rattle.std.proofs.Common.{◌≡◌, ℕ, ◌<◌, ◌≤◌, List, ℤ, ◌+ℤ◌, ◌≤ℤ◌, sym, ap, ◌∙◌, inl, inr, arith}
 use Rattle.std.specs.Int.{int_min}
 use Rattle.std.proofs.lemmas.Int.{ints}
 use Rattle.axis.specs.declared.model.Bound.{Bound}
 use Rattle.axis.specs.Asks.{Named, Within}
 use Rattle.axis.specs.Distance.{Table, mend}
 use Rattle.matrix_axis.specs.Cells.{entry, cell, Same, Closed}
-use Rattle.matrix_axis.specs.Lists.{Listed}
-use Rattle.matrix_axis.specs.Mending.{way, Reads, Short, Pending, Mended}
+use Rattle.matrix_axis.specs.Lists.{ListedBy}
+use Rattle.matrix_axis.specs.Mending.{way, Reads, Pending, Mended}
 use Rattle.matrix_axis.specs.declared.over.Over.{Over}
 
-module _ (n : ℕ) (t : Table) (b : Bound) (o : Over) (few : n ≤ 12) (within : Within n b) (closed : Closed n t) (reads : Reads t b o) where
-  pub reads_short : Short n o
-  reads_short = record {
-    reach = let e = reads.length in let w = within.1 in (omega (arith, ints, w.0), omega (arith, ints, w.1));
-    starts = λ i h. let e = reads.starts i (omega arith) in let k = closed.near i b.p h within.0.0 in (omega (arith, ints, k.0), omega (arith, ints, k.1));
-    ends = λ j h. let e = reads.ends j (omega arith) in let k = closed.near b.q j within.0.1 h in (omega (arith, ints, k.0), omega (arith, ints, k.1));
-  }
-
+module _ (n : ℕ) (t : Table) (b : Bound) (o : Over) (few : n ≤ 12) (within : Within n b) (closed : Closed n t) (reads : Reads n t b o) where
   way_is : (i j : ℕ) → Named n i j → way o i j ≡ t i b.p +ℤ (b.d +ℤ t b.q j)
   way_is i j h = let x = reads.starts i (omega (arith, h.0)) in let y = reads.ends j (omega (arith, h.1)) in let z = reads.length in omega (arith, ints)
 
   -- by the triangle law
-  pub reads_pending : (to_end from_start : List ℤ) (rows columns : List ℕ)
-      → ((i : ℕ) → i < 13 → entry to_end i ≡ t i b.q) → ((j : ℕ) → j < 13 → entry from_start j ≡ t b.p j)
-      → Listed n o.starts b.d to_end rows → Listed n o.ends b.d from_start columns → Pending n t o rows columns
-  reads_pending to_end from_start rows columns te fs lr lc = record {
-    row = λ i hi. elim (lr.all i hi) [
+  pub reads_pending : (rows columns : List ℕ)
+      → ListedBy n (λ i. t i b.q ≤ℤ (entry o.starts i +ℤ o.d)) rows → ListedBy n (λ j. t b.p j ≤ℤ (o.d +ℤ entry o.ends j)) columns → Pending t o rows columns
+  reads_pending rows columns lr lc = let e = reads.last in record {
+    row = λ i hi. elim (lr.all i (omega arith)) [
       | inl x ↦ inl x
       | inr x ↦ inr (λ j hj.
-          let w = way_is i j (hi, hj) in
-          let r = closed.round i b.q j hi within.0.1 hj in
-          let u = te i (omega arith) in
+          let w = way_is i j (omega arith, omega arith) in
+          let r = closed.round i b.q j (omega arith) within.0.1 (omega arith) in
           let v = reads.starts i (omega arith) in
+          let z = reads.length in
           omega (arith, ints))
     ];
-    column = λ j hj. elim (lc.all j hj) [
+    column = λ j hj. elim (lc.all j (omega arith)) [
       | inl x ↦ inl x
       | inr x ↦ inr (λ i hi.
-          let w = way_is i j (hi, hj) in
-          let r = closed.round i b.p j hi within.0.0 hj in
-          let u = fs j (omega arith) in
+          let w = way_is i j (omega arith, omega arith) in
+          let r = closed.round i b.p j (omega arith) within.0.0 (omega arith) in
           let v = reads.ends j (omega arith) in
+          let z = reads.length in
           omega (arith, ints))
     ];
-    row_within = lr.within;
-    column_within = lc.within;
+    row_within = λ i h. let z = lr.within i h in omega arith;
+    column_within = λ j h. let z = lc.within j h in omega arith;
   }
 
-  pub reads_mended : (before after : List ℤ) → t ≡ cell before → Mended n o before after → Same n after (mend t b)
+  pub reads_mended : (before after : List (List ℤ)) → t ≡ cell before → Mended o before after → Same n after (mend t b)
   unfolding mend
-  reads_mended before after e m i j h = m i j h ∙ ap (int_min (cell before i j)) (way_is i j h) ∙ ap (λ (u : Table). int_min (u i j) (t i b.p +ℤ (b.d +ℤ t b.q j))) (sym e)
+  reads_mended before after e m i j h =
+      let l = reads.last in let h0 = h.0 in let h1 = h.1 in
+      m i j (omega arith, omega arith) ∙ ap (int_min (cell before i j)) (way_is i j h) ∙ ap (λ (u : Table). int_min (u i j) (t i b.p +ℤ (b.d +ℤ t b.q j))) (sym e)

@@ -12,7 +12,6 @@ mod calls;
 mod mending;
 mod over;
 mod rebuilding;
-mod sums;
 mod table;
 mod worklists;
 
@@ -21,5 +20,5 @@ pub struct MatrixAxis {
     ledger: Ledger,
     table: Table,
     ghost open: { Open (means ledger) },
-    ghost kept: { Kept table.cells (means ledger) },
+    ghost kept: { Kept table.rows (means ledger) },
 }

@@ -1,24 +1,39 @@
 // The ways over a new bound.
-ghost use Rattle.std.specs.Prelude.{◌≡◌, ◌≤◌};
-ghost use Rattle.matrix_axis.specs.Mending.{way, Short};
+ghost use Rattle.std.specs.Prelude.{◌≡◌, ℕ, ◌<◌, ◌≤◌, ◌+ℤ◌, length, slice_index_or};
+ghost use Rattle.matrix_axis.specs.Cells.{entry};
+ghost use Rattle.matrix_axis.specs.Lists.{Short};
 
-use crate::sums::onward;
-use ledger::along;
-
-// The ways of each line to the bound's start, its length, and the ways from its end to each line.
+// On the lines 0 to last: the ways of each to the bound's start, its length, and the ways from its end to each.
 #[derive(Drop)]
 pub struct Over {
+    pub last: usize,
     pub starts: [i16; 13],
     pub d: i16,
     pub ends: [i16; 13],
+    ghost few: { last ≤ 12 },
+    ghost short: { Short last starts d ends },
 }
 
 impl Over {
-    pub fn way(&self, n: usize, i: usize, j: usize) -> i16
-        requires within { (i ≤ n) × ((j ≤ n) × (n ≤ 12)) }
-        requires short { Short n self.now }
+    ghost use Rattle.matrix_axis.specs.Mending.{way, RowMended};
+
+    // From line i over the bound to line j.
+    pub fn way(&self, i: usize, j: usize) -> i16
+        requires { (i ≤ self.now.last) × (j ≤ self.now.last) }
         ensures { result ≡ way self.now i j }
     {
-        onward(along(self.ends[j], self.d), self.starts[i])
+        self.starts[i] + (self.d + self.ends[j])
+    }
+
+    // Lowers the row of line i, in the listed columns.
+    pub fn mend_row(&self, i: usize, row: &mut [i16; 13], columns: &[u8])
+        requires line { i ≤ self.now.last }
+        requires columns { (k : ℕ) → k < length columns.now → slice_index_or columns.now k 0 ≤ self.now.last }
+        ensures { RowMended self.now i columns.now row.old row.new }
+    {
+        for j in columns {
+            let j = *j as usize;
+            row[j] = row[j].min(self.way(i, j));
+        }
     }
 }

@@ -1,15 +1,23 @@
-use Rattle.std.proofs.Common.{sym, refl, ◌∙◌, subst, arith, w16, SFits, rules}
-use Rattle.std.proofs.lemmas.Int.{ints, to_z-of_z}
-use Rattle.matrix_axis.specs.Cells.{entry}
-use Rattle.matrix_axis.proofs.Lines.{ListedBelow, listed_none, listed_next}
+use Rattle.std.proofs.Common.{◌∙◌, arith}
+use Rattle.matrix_axis.proofs.Lines.{listed_more, listed_skip, listed_all}
 use Rattle.matrix_axis.proofs.worklists.list_nearer.Goals as goal
+use Rattle.matrix_axis.proofs.worklists.list_nearer.Goals.{then-is_nearer, else-is_nearer}
 
-pub loop-r-init : goal.loop-r-init
-loop-r-init c = (c.requires.space, refl, subst (ListedBelow 0 _ _ _) (sym c.requires.empty) (listed_none _ _ _), λ h. absurd (omega arith))
+pub loop-line-preserved : goal.loop-line-preserved
+loop-line-preserved g c =
+    let before = c.loop-line.invariant in
+    elim c.if-is_nearer.branch [
+      | then-is_nearer w ↦ rw w.list-is (record {
+        size = w.push.ensures.size ∙ before.size;
+        same = w.push.ensures.same ∙ before.same;
+        listed = listed_more _ _ _ _ before.listed (w.push.ensures.succeeds (omega arith));
+      })
+      | else-is_nearer w ↦ rw w.list-is (record {
+        size = before.size;
+        same = before.same;
+        listed = listed_skip _ _ _ before.listed w.if-is_nearer.ensures;
+      })
+    ]
 
-pub loop-r-preserved : goal.loop-r-preserved
-loop-r-preserved c =
-    let seen : SFits w16 (entry c.args.known.now c.loop-r.r) = search rules in
-    let way : SFits w16 (entry c.args.ways.now c.loop-r.r) = search rules in
-    let next = listed_next _ _ _ c.args.n c.loop-r.r _ _ _ _ c.loop-r.invariant.2 (omega arith) (omega (arith, ints, c.along.ensures)) (to_z-of_z w16 _ seen) c.offer.ensures.after in
-    (c.offer.ensures.size ∙ c.loop-r.invariant.0, c.offer.ensures.same ∙ c.loop-r.invariant.1, next.0, next.1)
+pub returns-clause-after : goal.returns-clause-after
+returns-clause-after g c = listed_all _ _ _ _ c.loop-line.invariant.listed (omega arith)

@@ -22,7 +22,7 @@ mend-requires c =
     record {
       few = c.lines.ensures.few;
       within = subst (λ n. Within n c.args.bound) n (first.0, first.1.0);
-      closed = subst (λ n. Closed n (cell c.args.self.now.table.cells)) n (axis_closed c.args.self.now);
+      closed = subst (λ n. Closed n (cell c.args.self.now.table.rows)) n (axis_closed c.args.self.now);
     }
 
 pub invariant_of-self-2 : goal.invariant_of-self-2
@@ -31,7 +31,7 @@ invariant_of-self-2 c =
     let first = c.in_ok-admits.ensures in
     record {
       «open» = open_put a.ledger a.«open» c.args.bound first (c.closes_ring.ensures.no c.if-closes_ring.false) _ c.push.ensures;
-      kept = kept_put _ _ c.args.bound _ _ c.push.ensures first.0 a.kept (subst (λ n. Same n c.mend.new.self.cells (mend (cell a.table.cells) c.args.bound)) c.lines.ensures.value c.mend.ensures);
+      kept = kept_put _ _ c.args.bound _ _ c.push.ensures first.0 a.kept (subst (λ n. Same n c.mend.new.self.rows (mend (cell a.table.rows) c.args.bound)) c.lines.ensures.value c.mend.ensures);
     }
 
 pub returns : goal.returns

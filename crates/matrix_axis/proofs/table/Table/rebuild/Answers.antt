@@ -18,12 +18,12 @@ mend-requires c =
     let l = c.args.ledger.now in
     let k = c.loop-bound.bound-index in
     let items = c.bounds-bound-items.ensures in
-    let n = sym c.lines-n.ensures.value in
+    let n = sym c.lines-last.ensures.value in
     let lt : k < length (means l).bounds = subst (λ bs. k < length bs) items c.loop-bound-test.true in
     record {
-      few = c.lines-n.ensures.few;
+      few = c.lines-last.ensures.few;
       within = subst (λ n. Within n (get_or c.bounds-bound-items.result.now k none)) n (subst (λ bs. Within (lines (means l)) (get_or bs k none)) (sym items) (l.within _ (has_get_or (means l).bounds k none lt)));
-      closed = subst (λ n. Closed n (cell c.loop-bound.self.cells)) n (oldest_closed (means l) l.paired l.ordered l.within c.requires k _ c.loop-bound.invariant);
+      closed = subst (λ n. Closed n (cell c.loop-bound.self.rows)) n (oldest_closed (means l) l.paired l.ordered l.within c.requires k _ c.loop-bound.invariant);
     }
 
 pub loop-bound-preserved : goal.loop-bound-preserved
@@ -32,10 +32,10 @@ loop-bound-preserved c =
     let k = c.loop-bound.bound-index in
     let items = c.bounds-bound-items.ensures in
     let lt : k < length (means l).bounds = subst (λ bs. k < length bs) items c.loop-bound-test.true in
-    let old = c.loop-bound.self.cells in
-    let new = c.mend.new.self.cells in
+    let old = c.loop-bound.self.rows in
+    let new = c.mend.new.self.rows in
     oldest_more (means l) l.paired l.ordered l.within c.requires k none old new lt c.loop-bound.invariant
-    (subst (λ bs. Same (lines (means l)) new (mend (cell old) (get_or bs k none))) items (subst (λ n. Same n new (mend (cell old) (get_or c.bounds-bound-items.result.now k none))) c.lines-n.ensures.value c.mend.ensures))
+    (subst (λ bs. Same (lines (means l)) new (mend (cell old) (get_or bs k none))) items (subst (λ n. Same n new (mend (cell old) (get_or c.bounds-bound-items.result.now k none))) c.lines-last.ensures.value c.mend.ensures))
 
 pub returns : goal.returns
 returns c i j h =

@@ -1,0 +1,10 @@
+use Rattle.std.proofs.Common.{arith}
+use Rattle.std.proofs.lemmas.Int.{ints}
+use Rattle.matrix_axis.proofs.over.Over.way.Goals as goal
+
+pub returns : goal.returns
+returns c =
+    let short = c.args.self.now.short in
+    let start = short.to_start c.args.i c.requires.0 in
+    let end = short.from_end c.args.j c.requires.1 in
+    omega (arith, ints)
