@@ -6,7 +6,7 @@ use Rattle.axis.specs.declared.model.Bound.{Bound}
 use Rattle.axis.specs.Asks.{Named, Within}
 use Rattle.axis.specs.Distance.{Table, mend}
 use Rattle.matrix_axis.specs.Cells.{entry, cell, Same, Closed}
-use Rattle.matrix_axis.specs.Lists.{ListedBy}
+use Rattle.matrix_axis.specs.Lists.{Listed}
 use Rattle.matrix_axis.specs.Mending.{way, Reads, Pending, Mended}
 use Rattle.matrix_axis.specs.declared.over.Over.{Over}
 
@@ -16,7 +16,7 @@ module _ (n : ℕ) (t : Table) (b : Bound) (o : Over) (few : n ≤ 12) (within :
 
   -- by the triangle law
   pub reads_pending : (rows columns : List ℕ)
-      → ListedBy n (λ i. t i b.q ≤ℤ (entry o.starts i +ℤ o.d)) rows → ListedBy n (λ j. t b.p j ≤ℤ (o.d +ℤ entry o.ends j)) columns → Pending t o rows columns
+      → Listed n (λ i. t i b.q ≤ℤ (entry o.starts i +ℤ o.d)) rows → Listed n (λ j. t b.p j ≤ℤ (o.d +ℤ entry o.ends j)) columns → Pending t o rows columns
   reads_pending rows columns lr lc = let e = reads.last in record {
     row = λ i hi. elim (lr.all i (omega arith)) [
       | inl x ↦ inl x

@@ -3,7 +3,7 @@ use Rattle.std.proofs.Common.{◌≡◌, ℕ, ◌+◌, ◌<◌, ◌≤◌, ◌�
 use Rattle.std.specs.List.{ContainsAt}
 use Rattle.std.proofs.lemmas.List.{length_push}
 use Rattle.std.proofs.ByRecursion.{has_append_left, has_push, has_push_cases}
-use Rattle.matrix_axis.specs.Lists.{ListedBy}
+use Rattle.matrix_axis.specs.Lists.{Listed}
 
 -- every line below r is listed or is skipped
 pub record ListedBelow (r : ℕ) (Skipped : ℕ → Type 0) (list : List ℕ) : Type 0 where
@@ -29,8 +29,8 @@ module _ (Skipped : ℕ → Type 0) where
     within = λ x h. elim (has_push_cases before r x h) [ inl y ↦ (let i = l.within x y in omega arith) | inr q ↦ omega arith ];
   })
 
-  pub listed_all : (n r : ℕ) (list : List ℕ) → ListedBelow r Skipped list → r ≡ n + 1 → ListedBy n Skipped list
+  pub listed_all : (n r : ℕ) (list : List ℕ) → ListedBelow r Skipped list → r ≡ n + 1 → Listed n Skipped list
   listed_all n r list l e = record { all = λ x h. l.all x (omega arith); within = λ x h. let i = l.within x h in omega arith }
 
-pub listed_as : (n : ℕ) (P Q : ℕ → Type 0) (list : List ℕ) → ListedBy n P list → ((r : ℕ) → r ≤ n → P r → Q r) → ListedBy n Q list
+pub listed_as : (n : ℕ) (P Q : ℕ → Type 0) (list : List ℕ) → Listed n P list → ((r : ℕ) → r ≤ n → P r → Q r) → Listed n Q list
 listed_as n P Q list l f = record { all = λ r h. elim (l.all r h) [ inl y ↦ inl y | inr y ↦ inr (f r h y) ]; within = l.within }

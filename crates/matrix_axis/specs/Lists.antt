@@ -1,4 +1,4 @@
--- The ways over a bound are short, and its worklists.
+-- The parts of the ways over a bound, and its worklists.
 use Rattle.std.specs.Prelude.{◌≡◌, ℕ, ◌≤◌, ◌⊎◌, List, ℤ, ◌+ℤ◌, ◌≤ℤ◌}
 use Rattle.std.specs.List.{ContainsAt}
 use Rattle.axis.specs.Asks.{InReach}
@@ -12,6 +12,6 @@ pub record Short (n : ℕ) (starts : List ℤ) (d : ℤ) (ends : List ℤ) : Typ
   pub from_end : (j : ℕ) → j ≤ n → Near (entry ends j)
 
 -- every line 0 to n is listed or is skipped, and no line past n is listed
-pub record ListedBy (n : ℕ) (Skipped : ℕ → Type 0) (list : List ℕ) : Type 0 where
+pub record Listed (n : ℕ) (Skipped : ℕ → Type 0) (list : List ℕ) : Type 0 where
   pub all : (r : ℕ) → r ≤ n → ContainsAt list r ⊎ Skipped r
   pub within : (r : ℕ) → ContainsAt list r → r ≤ n

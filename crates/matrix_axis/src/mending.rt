@@ -48,19 +48,13 @@ impl Table {
         let q = bound.q as usize;
         let over = self.over(last, bound);
         let mut row_slots = [u8::MAX; 13];
-        let mut rows = Stack::new(&mut row_slots);
-        list_nearer(
-            &mut rows,
-            last,
-            |i| over.starts[i] + over.d < self.rows[i][q],
-        );
+        let mut rows = list_nearer(&mut row_slots, last, |i| {
+            over.starts[i] + over.d < self.rows[i][q]
+        });
         let mut column_slots = [u8::MAX; 13];
-        let mut columns = Stack::new(&mut column_slots);
-        list_nearer(
-            &mut columns,
-            last,
-            |j| over.d + over.ends[j] < self.rows[p][j],
-        );
+        let columns = list_nearer(&mut column_slots, last, |j| {
+            over.d + over.ends[j] < self.rows[p][j]
+        });
         self.mend_rows(&over, &mut rows, columns.items());
     }
 }

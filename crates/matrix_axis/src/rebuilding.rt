@@ -13,7 +13,7 @@ impl Table {
     pub fn fill(&mut self, ledger: &Ledger)
         ensures { Same (lines (means ledger.now)) self.new.rows (base (means ledger.now).lows (means ledger.now).highs) }
     {
-        for (i, row) in self.rows[..ledger.lines() + 1].iter_mut().enumerate() {
+        for (i, row) in self.rows[..=ledger.lines()].iter_mut().enumerate() {
             fill_row(row, ledger, i);
         }
     }
@@ -36,7 +36,7 @@ fn fill_row(row: &mut [i16; 13], ledger: &Ledger, i: usize)
     requires { i ≤ lines (means ledger.now) }
     ensures { (j : ℕ) → j ≤ lines (means ledger.now) → entry row.new j ≡ base (means ledger.now).lows (means ledger.now).highs i j }
 {
-    for (j, length) in row[..ledger.lines() + 1].iter_mut().enumerate() {
+    for (j, length) in row[..=ledger.lines()].iter_mut().enumerate() {
         *length = ledger.direct(i, j);
     }
 }

@@ -9,15 +9,13 @@ loop-line-preserved g c =
     elim c.if-is_nearer.branch [
       | then-is_nearer w ↦ rw w.list-is (record {
         size = w.push.ensures.size ∙ before.size;
-        same = w.push.ensures.same ∙ before.same;
         listed = listed_more _ _ _ _ before.listed (w.push.ensures.succeeds (omega arith));
       })
       | else-is_nearer w ↦ rw w.list-is (record {
         size = before.size;
-        same = before.same;
         listed = listed_skip _ _ _ before.listed w.if-is_nearer.ensures;
       })
     ]
 
-pub returns-clause-after : goal.returns-clause-after
-returns-clause-after g c = listed_all _ _ _ _ c.loop-line.invariant.listed (omega arith)
+pub returns : goal.returns
+returns g c = listed_all _ _ _ _ c.loop-line.invariant.listed (omega arith)

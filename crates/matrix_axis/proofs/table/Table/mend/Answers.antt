@@ -1,5 +1,4 @@
-use Rattle.std.proofs.Common.{sym, refl, subst, arith, rules, tests}
-use Rattle.std.proofs.lemmas.Int.{ints}
+use Rattle.std.proofs.Common.{sym, refl, subst, rules}
 use Rattle.matrix_axis.specs.Mending.{Pending}
 use Rattle.matrix_axis.proofs.Bounds.{reads_pending, reads_mended}
 use Rattle.matrix_axis.proofs.Lines.{listed_as}
@@ -9,8 +8,8 @@ pub mend_rows-requires : goal.mend_rows-requires
 mend_rows-requires c =
     subst (Pending _ _ _) (sym c.items.ensures)
     (reads_pending _ _ _ _ c.requires.few c.requires.within c.requires.closed c.over-over.ensures _ _
-    (listed_as _ _ _ _ c.list_nearer.ensures.after (λ r h k. search rules))
-    (listed_as _ _ _ _ c.list_nearer-2.ensures.after (λ r h k. search rules)))
+    (listed_as _ _ _ _ c.list_nearer-rows.ensures (λ r h k. search rules))
+    (listed_as _ _ _ _ c.list_nearer-columns.ensures (λ r h k. search rules)))
 
 pub returns : goal.returns
 returns c = reads_mended _ _ _ _ c.requires.few c.requires.within c.requires.closed c.over-over.ensures _ _ refl c.mend_rows.ensures
