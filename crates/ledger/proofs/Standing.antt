@@ -1,18 +1,26 @@
--- The bounds after one came or went are within reach of the lines as before.
-use Rattle.std.proofs.Common.{◌≡◌, ℕ, ◌<◌, ◌≤◌, List, [], ◌∷◌, ◌++◌, length, sym, subst, inl, inr, arith}
+-- After one bound came or went, the bounds are within reach of the lines and close no negative ring, as before.
+use Rattle.std.proofs.Common.{◌≡◌, ℕ, ◌≤◌, true, List, [], ◌∷◌, ◌++◌, length, Some, None, Option, sym, ◌∙◌, subst, inl, inr, arith}
+use Rattle.std.specs.List.{ContainsAt}
 use Rattle.std.proofs.lemmas.List.{length-append}
 use Rattle.std.proofs.ByRecursion.{has_append_left, has_push_cases}
 use Rattle.axis.specs.Asks.{Within, AllWithin}
+use Rattle.axis.specs.Distance.{Table, open_from}
 use Rattle.axis.specs.declared.model.Bound.{Bound}
+use Rattle.axis.proofs.Distances.{open_parts}
+use Rattle.held.specs.Newest.{Parted}
 
 pub within_push : (n : ℕ) (bs after : List Bound) (b : Bound) → after ≡ bs ++ b ∷ [] → AllWithin n bs → Within n b → AllWithin n after
 within_push n bs after b e h w = subst (AllWithin n) (sym e) (λ c x. elim (has_push_cases bs b c x) [ inl y ↦ h c y | inr y ↦ subst (Within n) y w ])
 
-pub within_front : (n : ℕ) (before bs cs : List Bound) → before ≡ bs ++ cs → AllWithin n before → AllWithin n bs
-within_front n before bs cs e h c x = subst (AllWithin n) e h c (has_append_left bs cs c x)
+module _ (before after : List Bound) where
+  pub within_pop : (n : ℕ) (newest : Option Bound) → Parted before newest after → AllWithin n before → AllWithin n after
+  within_pop n (Some b) e h = λ c x. h c (subst (λ bs. ContainsAt bs c) (sym e) (has_append_left after (b ∷ []) c x))
+  within_pop n None e h = subst (AllWithin n) (e.0 ∙ sym e.1) h
 
-pub front_few : (before bs cs : List Bound) → before ≡ bs ++ cs → length before ≤ 90 → length bs ≤ 90
-front_few before bs cs e h = let k : length (bs ++ cs) ≤ 90 = subst (λ xs. length xs ≤ 90) e h in omega (arith, length-append bs cs)
+  pub few_pop : (newest : Option Bound) → Parted before newest after → length before ≤ 90 → length after ≤ 90
+  few_pop (Some b) e h = let k : length (after ++ b ∷ []) ≤ 90 = subst (λ bs. length bs ≤ 90) e h in omega (arith, length-append after (b ∷ []))
+  few_pop None e h = subst (λ bs. length bs ≤ 90) (e.0 ∙ sym e.1) h
 
-pub push_few : (bs after : List Bound) (b : Bound) → after ≡ bs ++ b ∷ [] → length bs < 90 → length after ≤ 90
-push_few bs after b e h = subst (λ xs. length xs ≤ 90) (sym e) (omega (arith, length-append bs (b ∷ [])))
+  pub open_pop : (t : Table) (newest : Option Bound) → Parted before newest after → open_from t before ≡ true → open_from t after ≡ true
+  open_pop t (Some b) e o = (open_parts t after (b ∷ []) (subst (λ bs. open_from t bs ≡ true) e o)).0
+  open_pop t None e o = subst (λ bs. open_from t bs ≡ true) (e.0 ∙ sym e.1) o

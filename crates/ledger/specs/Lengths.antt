@@ -3,7 +3,3 @@ use Rattle.std.specs.Prelude.{ℤ, pos, neg_ℤ, ◌≤ℤ◌}
 
 abbrev pub Near : ℤ → Type 0
 Near x = (neg_ℤ (pos 2880) ≤ℤ x) × (x ≤ℤ pos 2880)
-
--- a number of steps or metres from line 0 on
-abbrev pub Ahead : ℤ → Type 0
-Ahead x = (pos 0 ≤ℤ x) × (x ≤ℤ pos 2880)

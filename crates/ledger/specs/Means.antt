@@ -1,5 +1,5 @@
 -- What a ledger means.
-use Rattle.std.specs.Prelude.{◌≡◌, ℕ, [], Ok, Err, vec_items, Result}
+use Rattle.std.specs.Prelude.{◌≡◌, ℕ, [], Ok, Err, Result}
 use Rattle.axis.specs.Meaning.{Meaning, lines, with_bound}
 use Rattle.axis.specs.Questions.{AllYes, FirstNo}
 use Rattle.axis.specs.Asks.{Named, first_asks}
@@ -7,9 +7,10 @@ use Rattle.axis.specs.declared.model.Bound.{Bound}
 use Rattle.axis.specs.declared.model.AxisFault.{AxisFault}
 use Rattle.axis.specs.declared.model.AxisFault.TheVariants.{Line, NoBound}
 use Rattle.ledger.specs.declared.Ledger.{Ledger}
+use Rattle.ledger.specs.Ranges.{every_low, every_high}
 
 abbrev pub means : Ledger → Meaning
-means l = record { lows = vec_items l.lows; highs = vec_items l.highs; bounds = vec_items l.bounds }
+means l = record { lows = every_low l.ranges; highs = every_high l.ranges; bounds = l.bounds }
 
 -- are both lines there?
 abbrev pub Names : Meaning → ℕ → ℕ → Result Unit AxisFault → Type 0

@@ -6,7 +6,7 @@ ghost use Rattle.axis.specs.Distance.{base};
 ghost use Rattle.ledger.specs.Means.{means, Names, Admits};
 
 use crate::Ledger;
-use crate::sums::less;
+use crate::ranges::Range;
 use axis::{AxisFault, Bound};
 
 impl Ledger {
@@ -14,22 +14,34 @@ impl Ledger {
         ensures value { result ≡ lines (means self.now) }
         ensures few { result ≤ 12 }
     {
-        self.lows.len()
+        self.ranges.len()
     }
 
     // Line 0 is at 0 always.
+    fn range(&self, line: usize) -> Range
+        requires { line ≤ lines (means self.now) }
+        ensures least { result.low ≡ low (means self.now) line }
+        ensures greatest { result.high ≡ high (means self.now) line }
+    {
+        if line == 0 {
+            Range { low: 0, high: 0 }
+        } else {
+            self.ranges.as_slice()[line - 1]
+        }
+    }
+
     pub fn low(&self, line: usize) -> i16
         requires { line ≤ lines (means self.now) }
         ensures { result ≡ low (means self.now) line }
     {
-        if line == 0 { 0 } else { self.lows[line - 1] }
+        self.range(line).low
     }
 
     pub fn high(&self, line: usize) -> i16
         requires { line ≤ lines (means self.now) }
         ensures { result ≡ high (means self.now) line }
     {
-        if line == 0 { 0 } else { self.highs[line - 1] }
+        self.range(line).high
     }
 
     // The length from line i to line j over line 0, before any bound stands.
@@ -40,7 +52,7 @@ impl Ledger {
         if i == j {
             0
         } else {
-            less(self.high(i), self.low(j))
+            self.high(i) - self.low(j)
         }
     }
 

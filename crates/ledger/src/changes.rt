@@ -1,26 +1,24 @@
 // How a ledger begins and changes.
-ghost use Rattle.std.specs.Prelude.{◌≡◌, ℕ, ◌<◌, ◌≤◌, true, false, [], ◌∷◌, ◌++◌, length, IfOk, vec_capacity};
+ghost use Rattle.std.specs.Prelude.{◌≡◌, ℕ, ◌<◌, ◌≤◌, true, false, [], ◌∷◌, ◌++◌, length, IfOk};
 ghost use Rattle.axis.specs.Meaning.{new, lines, with_bound};
-ghost use Rattle.axis.specs.Asks.{Reset, Within, InOrder, Ordered};
+ghost use Rattle.axis.specs.Asks.{Reset, Within, Paired, Ordered};
 ghost use Rattle.axis.specs.Distance.{Open};
 ghost use Rattle.ledger.specs.Means.{means, Gone};
+ghost use Rattle.ledger.specs.Ranges.{every_low, every_high};
 
 use crate::Ledger;
+use crate::ranges::Range;
 use axis::{AxisFault, Bound};
+use held::Held;
 use std::alloc::{AllocError, Global};
 
 impl Ledger {
     pub fn new(heap: Global) -> Result<Ledger, AllocError>
         ensures { IfOk result (λ l. means l ≡ new) }
     {
-        let lows = Vec::with_capacity(heap, 12)?;
-        let highs = Vec::with_capacity(heap, 12)?;
-        let bounds = Vec::with_capacity(heap, 90)?;
-        Ok(Ledger {
-            lows,
-            highs,
-            bounds,
-        })
+        let ranges = Held::new(heap)?;
+        let bounds = Held::new(heap)?;
+        Ok(Ledger { ranges, bounds })
     }
 
     // New lines with these ranges, and no bounds.
@@ -33,8 +31,7 @@ impl Ledger {
         if !ordered(lows, highs) {
             return Err(AxisFault::Ranges);
         }
-        refill(&mut self.lows, lows);
-        refill(&mut self.highs, highs);
+        refill(&mut self.ranges, lows, highs);
         self.bounds.clear();
         Ok(())
     }
@@ -44,7 +41,7 @@ impl Ledger {
         requires space { length (means self.old).bounds < 90 }
         ensures { means self.new ≡ with_bound (means self.old) bound }
     {
-        self.bounds.push_reserved(bound);
+        self.bounds.push(bound);
     }
 
     // The newest bound goes.
@@ -52,22 +49,20 @@ impl Ledger {
         ensures after { Gone (means self.old) result (means self.new) }
         ensures opens { Open (means self.old) → Open (means self.new) }
     {
-        match self.bounds.pop() {
-            Some(bound) => Ok(bound),
-            None => Err(AxisFault::NoBound),
-        }
+        self.bounds.pop().ok_or(AxisFault::NoBound)
     }
 }
 
-// Puts these numbers in place of what was there, in the memory that is reserved.
-fn refill(kept: &mut Vec<i16>, numbers: &[i16])
-    requires reserved { 12 ≤ vec_capacity kept.old }
-    requires few { length numbers.now ≤ 12 }
-    ensures items { kept.new.items ≡ numbers.now }
-    ensures capacity { 12 ≤ vec_capacity kept.new }
+// Puts these ranges in place of those that were there.
+fn refill(ranges: &mut Held<Range, 12>, lows: &[i16], highs: &[i16])
+    requires { Paired lows.now highs.now }
+    ensures least { every_low ranges.new ≡ lows.now }
+    ensures greatest { every_high ranges.new ≡ highs.now }
 {
-    kept.clear();
-    let _ = kept.extend_from_slice(numbers);
+    ranges.clear();
+    for (&low, &high) in lows.iter().zip(highs) {
+        ranges.push(Range { low, high });
+    }
 }
 
 // Is every low from 0 to 2880, and every high from its low to 2880?
@@ -76,17 +71,7 @@ fn ordered(lows: &[i16], highs: &[i16]) -> bool
     ensures yes { result ≡ true → Ordered lows.now highs.now }
     ensures no { result ≡ false → Ordered lows.now highs.now → ⊥ }
 {
-    for k in 0..lows.len() {
-        if !in_order(lows[k], highs[k]) {
-            return false;
-        }
-    }
-    true
-}
-
-fn in_order(low: i16, high: i16) -> bool
-    ensures yes { result ≡ true → InOrder low high }
-    ensures no { result ≡ false → InOrder low high → ⊥ }
-{
-    0 <= low && low <= high && high <= 2880
+    lows.iter()
+        .zip(highs)
+        .all(|(&low, &high)| Range { low, high }.in_order())
 }

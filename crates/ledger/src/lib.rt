@@ -1,26 +1,27 @@
 // The lines and the standing bounds of an axis, with the questions that are answered from them alone: what every axis keeps.
 #![tactic(auto)]
 
-ghost use Rattle.std.specs.Prelude.{◌≤◌, length, vec_capacity};
+ghost use Rattle.std.specs.Prelude.{◌≤◌, length};
 ghost use Rattle.axis.specs.Asks.{Paired, Ordered, AllWithin};
+ghost use Rattle.ledger.specs.Ranges.{every_low, every_high};
 
 use axis::Bound;
+use held::Held;
+use ranges::Range;
 
 mod asks;
 mod changes;
+mod ranges;
 mod sums;
 
 pub use sums::{along, lesser};
 
-// Memory is reserved for all that is ever held, so no call fails for want of it.
 #[derive(Drop)]
 pub struct Ledger {
-    lows: Vec<i16>,
-    highs: Vec<i16>,
-    bounds: Vec<Bound>,
-    ghost room: { (12 ≤ vec_capacity lows) × (12 ≤ vec_capacity highs) × (90 ≤ vec_capacity bounds) },
-    ghost paired: { Paired lows.items highs.items },
-    ghost ordered: { Ordered lows.items highs.items },
-    ghost within: { AllWithin (length lows.items) bounds.items },
-    ghost few: { length bounds.items ≤ 90 },
+    ranges: Held<Range, 12>,
+    bounds: Held<Bound, 90>,
+    ghost paired: { Paired (every_low ranges) (every_high ranges) },
+    ghost ordered: { Ordered (every_low ranges) (every_high ranges) },
+    ghost within: { AllWithin (length (every_low ranges)) bounds },
+    ghost few: { length bounds ≤ 90 },
 }

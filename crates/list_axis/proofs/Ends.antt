@@ -1,20 +1,22 @@
--- The row begins as one of walks over line 0, and ends as that of the lengths.
-use Rattle.std.proofs.Common.{◌≡◌, ℕ, ◌+◌, ◌<◌, ◌≤◌, ◌≢◌, List, length, set, ℤ, pos, ◌+ℤ◌, ◌≤ℤ◌, sym, refl, ◌∙◌, subst, inl, inr, arith, length-set, get_or-set_other, get_or-set_same, below_more}
+-- The lengths begin as those of the ways over line 0, and end as the shortest.
+use Rattle.std.proofs.Common.{◌≡◌, ℕ, ◌≤◌, List, ℤ, ◌+ℤ◌, ◌-ℤ◌, ◌≤ℤ◌, sym, subst, inl, inr, arith}
 use Rattle.std.proofs.lemmas.Int.{ints}
 use Rattle.std.proofs.lemmas.Bool.{cases_eq}
-use Rattle.axis.specs.Meaning.{Meaning, lines, Edge, bound, down, up, Walk}
-use Rattle.axis.specs.Distance.{Open, base}
-use Rattle.axis.proofs.Tables.{base_self, base_over, base_walk}
+use Rattle.axis.specs.Meaning.{Meaning, lines, Placement, down, up, Walk}
+use Rattle.axis.specs.Distance.{Open, base, distance}
+use Rattle.axis.proofs.Walks.{walk_kept}
+use Rattle.axis.proofs.Tables.{base_self, base_over}
 use Rattle.axis.proofs.Distances.{in_order}
-use Rattle.axis.proofs.Rows.{row_shortest}
 use Rattle.ledger.specs.declared.Ledger.{Ledger}
 use Rattle.ledger.specs.Means.{means}
 use Rattle.ledger.specs.Lengths.{Near}
-use Rattle.list_axis.specs.Rows.{entry, Found, BoundsKept, RangesKept, Complete}
+use Rattle.ledger.proofs.Open.{ledger_right}
+use Rattle.list_axis.specs.declared.lengths.Lengths.{Lengths}
+use Rattle.list_axis.specs.Rows.{entry, EdgesKept, Complete}
 use Rattle.list_axis.proofs.Told.{shortest_length}
 
 module _ (l : Ledger) where
-  base_near : (i j : ℕ) → i ≤ lines (means l) → j ≤ lines (means l) → Near (base (means l).lows (means l).highs i j)
+  pub base_near : (i j : ℕ) → i ≤ lines (means l) → j ≤ lines (means l) → Near (base (means l).lows (means l).highs i j)
   base_near i j hi hj =
       let a = in_order _ _ l.paired l.ordered i hi in
       let b = in_order _ _ l.paired l.ordered j hj in
@@ -23,38 +25,42 @@ module _ (l : Ledger) where
         | inr n ↦ (let z = base_over (means l).lows (means l).highs i j n in (omega (arith, ints), omega (arith, ints)))
       ]
 
-  -- the lengths to the lines below n stand in their places
-  abbrev pub Begun : ℕ → List ℤ → ℕ → Type 0
-  Begun s row n = (length row ≡ 13) × ((j : ℕ) → j < 13 → Near (entry row j)) × ((j : ℕ) → j < n → entry row j ≡ base (means l).lows (means l).highs s j)
+  -- no bound makes a length longer
+  pub base_far : Open (means l) → (i j : ℕ) → i ≤ lines (means l) → j ≤ lines (means l) → distance (means l) i j ≤ℤ base (means l).lows (means l).highs i j
+  base_far o i j hi hj =
+      let r = ledger_right l o in
+      let a = r.tight i 0 _ (down i hi) in
+      let b = r.tight 0 j _ (up j hj) in
+      let c = r.round i 0 j hi (omega arith) hj in
+      elim (cases_eq i j) [
+        | inl e ↦ (let z = base_self (means l).lows (means l).highs i j e in let s = r.self i hi in let t : distance (means l) i j ≡ distance (means l) i i = cc in omega (arith, ints))
+        | inr n ↦ (let z = base_over (means l).lows (means l).highs i j n in omega (arith, ints))
+      ]
 
-  pub begun_more : (s : ℕ) (row : List ℤ) (n : ℕ) (x : ℤ) → s ≤ lines (means l) → n ≤ lines (means l) → x ≡ base (means l).lows (means l).highs s n → Begun s row n → Begun s (set row n x) (n + 1)
-  begun_more s row n x hs hn e (size, near, is) =
-      let few = l.paired.1 in
-      let here : entry (set row n x) n ≡ x = get_or-set_same row n x (pos 0) (omega arith) in (
-        length-set row n x ∙ size,
-        λ j h. elim (cases_eq j n) [
-          | inl z ↦ subst (λ i. Near (entry (set row n x) i)) (sym z) (subst Near (sym (here ∙ e)) (base_near s n hs hn))
-          | inr z ↦ subst Near (sym (get_or-set_other row n j x (pos 0) z)) (near j h)
-        ],
-        below_more (λ j. entry (set row n x) j ≡ base (means l).lows (means l).highs s j) n
-            (λ j h. let z : j ≢ n = omega arith in get_or-set_other row n j x (pos 0) z ∙ is j h)
-            (here ∙ e),
-      )
-
-  pub begun_all : (s : ℕ) (row : List ℤ) (n : ℕ) → s ≤ lines (means l) → lines (means l) < n → Begun s row n → Found (means l) s row
-  begun_all s row n hs hn (size, near, is) = record {
-    size = size;
-    line = hs;
-    home = let a = is s (omega arith) in let b = base_self (means l).lows (means l).highs s s refl in omega (arith, ints);
-    walk = λ j hj. subst (λ x. Walk (means l) s j x) (sym (is j (omega arith))) (base_walk (means l) s j hs hj);
-    near = near;
+module _ (m : Meaning) (row : List ℤ) (k : EdgesKept m row) where
+  -- how far each line is before line 0
+  settled : Placement m (λ r. entry row 0 -ℤ entry row r)
+  settled = record {
+    above = λ r h. let e = (k.1 r (omega arith)).1 in omega (arith, ints);
+    below = λ r h. let e = (k.1 r (omega arith)).0 in omega (arith, ints);
+    keeps = λ b h. let e = k.0 b h in omega (arith, ints);
   }
 
-edges_kept : (m : Meaning) (row : List ℤ) → BoundsKept m.bounds row × RangesKept m (lines m + 1) row → (p q : ℕ) (d : ℤ) → Edge m p q d → entry row q ≤ℤ (entry row p +ℤ d)
-edges_kept m row k p q d (bound b h) = k.0 b h
-edges_kept m row k p q d (down _ h) = (k.1 p (omega arith)).0
-edges_kept m row k p q d (up _ h) = (k.1 q (omega arith)).1
+  settled_least : (p q : ℕ) (x : ℤ) → Walk m p q x → entry row q ≤ℤ (entry row p +ℤ x)
+  settled_least p q x w = let a = walk_kept m _ settled p q x w in omega (arith, ints)
 
 -- a row that no edge shortens
-pub kept_complete : (l : Ledger) → Open (means l) → (row : List ℤ) → BoundsKept (means l).bounds row × RangesKept (means l) (lines (means l) + 1) row → Complete (means l) row
-kept_complete l o row k s f q h = shortest_length l o s q (entry row q) f.line h (row_shortest (means l) (entry row) (edges_kept (means l) row k) s q f.home (f.walk q h))
+row_complete : (l : Lengths) → EdgesKept (means l.ledger.now) l.row → Complete (means l.ledger.now) l.start l.row
+row_complete l k q h =
+    let m = means l.ledger.now in
+    let w = (ledger_right l.ledger.now l.standing).walk l.start q l.line h in
+    let a = settled_least m l.row k l.start q _ w in
+    let b = l.far q h in
+    let s = l.home in
+    let e : entry l.row q ≡ distance m l.start q = omega (arith, ints) in
+    shortest_length l.ledger.now l.standing l.start q (entry l.row q) l.line h e
+
+pub kept_complete : (l : Lengths) (ledger : Ledger) (start : ℕ) → l.ledger.now ≡ ledger → l.start ≡ start → EdgesKept (means ledger) l.row → Complete (means ledger) start l.row
+kept_complete l ledger start e s k =
+    subst (λ x. Complete (means ledger) x l.row) s
+    (subst (λ x. Complete (means x) l.start l.row) e (row_complete l (subst (λ x. EdgesKept (means x) l.row) (sym e) k)))

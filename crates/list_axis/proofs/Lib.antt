@@ -1,3 +1,4 @@
+mod Made
 mod Totals
 mod Told
 mod Steps

@@ -1,101 +1,102 @@
--- What relaxing one edge does to a row of walks, and how such steps add up.
-use Rattle.std.proofs.Common.{◌≡◌, ℕ, ◌+◌, ◌<◌, ◌≤◌, Bool, true, false, cond, ◌||◌, ◌≢◌, List, length, get_or, take, set, ℤ, pos, ◌+ℤ◌, neg_ℤ, ◌≤ℤ◌, ◌<ℤ◌, sym, refl, ap, ◌∙◌, subst, inl, inr, arith, length-set, get_or-set_other, get_or-set_same}
+-- What relaxing one edge does to the lengths from one line, and how such steps add up.
+use Rattle.std.proofs.Common.{◌≡◌, ℕ, ◌+◌, ◌<◌, ◌≤◌, Bool, true, false, ◌||◌, List, length, get_or, take, set, ℤ, pos, ◌+ℤ◌, neg_ℤ, ◌≤ℤ◌, ◌<ℤ◌, sym, refl, ap, ◌∙◌, subst, inl, inr, arith, get_or-set_other, get_or-set_same}
 use Rattle.std.specs.List.{ContainsAt}
 use Rattle.std.proofs.lemmas.List.{take_more}
 use Rattle.std.proofs.ByRecursion.{has_get_or, has_push_cases}
 use Rattle.std.proofs.lemmas.Int.{ints}
-use Rattle.std.proofs.lemmas.Bool.{cases_eq, or_cases, or_parts, true≢false, false≢true}
+use Rattle.std.proofs.lemmas.Bool.{cases_eq, or_cases, or_parts}
 use Rattle.axis.specs.declared.model.Bound.{Bound}
-use Rattle.axis.specs.Meaning.{Meaning, lines, Edge, down, up, Walk}
-use Rattle.axis.specs.Distance.{Open}
-use Rattle.axis.proofs.Walks.{walk_push}
+use Rattle.axis.specs.Meaning.{Meaning, lines, Edge, bound, down, up}
+use Rattle.axis.specs.Asks.{InReach}
+use Rattle.axis.specs.Distance.{Right, distance}
+use Rattle.axis.proofs.Distances.{in_order, right_near}
 use Rattle.ledger.specs.declared.Ledger.{Ledger}
 use Rattle.ledger.specs.Means.{means}
 use Rattle.ledger.specs.Lengths.{Near}
 use Rattle.ledger.proofs.Open.{ledger_right}
-use Rattle.list_axis.specs.Rows.{entry, shorter, relaxed, Found, total, Kept, BoundsKept, highest, lowest, Passed}
+use Rattle.list_axis.specs.declared.lengths.Lengths.{Lengths}
+use Rattle.list_axis.specs.Rows.{entry, total, Kept, BoundsKept}
+use Rattle.list_axis.specs.Passing.{Passed}
 use Rattle.list_axis.proofs.Totals.{above_less, total_set}
-use Rattle.list_axis.proofs.Told.{walk_floor}
 
-passed_falls : {m : Meaning} {K : List ℤ → Type 0} {a b : List ℤ} (x : Bool) → Passed K m a b x → total b ≤ total a
+passed_falls : {K : Meaning → List ℤ → Type 0} {a b : Lengths} (x : Bool) → Passed K a b x → total b.row ≤ total a.row
 passed_falls true f = let h = f.fell refl in omega arith
 passed_falls false f = let e = ap total (f.still refl) in omega arith
 
-module _ {m : Meaning} {J K : List ℤ → Type 0} where
+module _ {J K : Meaning → List ℤ → Type 0} {a b : Lengths} where
   -- one step and then another
-  pub passed_both : {a b c : List ℤ} (x y : Bool) → Passed J m a b x → Passed K m b c y → Passed (λ row. J row × K row) m a c (x || y)
-  passed_both x y f g = record {
-    found = λ s h. g.found s (f.found s h);
+  pub passed_both : (c : Lengths) (x y : Bool) → Passed J a b x → Passed K b c y → Passed (λ m row. J m row × K m row) a c (x || y)
+  passed_both c x y f g = record {
+    ledger = g.ledger ∙ f.ledger;
+    start = g.start ∙ f.start;
     fell = λ e.
         let h = passed_falls x f in
         let k = passed_falls y g in
         elim (or_cases x y e) [ inl z ↦ (let l = f.fell z in omega arith) | inr z ↦ (let l = g.fell z in omega arith) ];
     still = λ e. let z = or_parts x y e in g.still z.1 ∙ f.still z.0;
-    kept = λ e. let z = or_parts x y e in (subst J (sym (g.still z.1)) (f.kept z.0), g.kept z.1);
+    kept = λ e. let z = or_parts x y e in (subst (J (means a.ledger.now)) (sym (g.still z.1)) (f.kept z.0), subst (λ l. K (means l) c.row) f.ledger (g.kept z.1));
   }
 
-  pub passed_weaker : {a b : List ℤ} (x : Bool) → ((row : List ℤ) → J row → K row) → Passed J m a b x → Passed K m a b x
-  passed_weaker x w f = record { found = f.found; fell = f.fell; still = f.still; kept = λ e. w _ (f.kept e) }
+  pub passed_weaker : (x : Bool) → ((row : List ℤ) → J (means a.ledger.now) row → K (means a.ledger.now) row) → Passed J a b x → Passed K a b x
+  passed_weaker x w f = record { ledger = f.ledger; start = f.start; fell = f.fell; still = f.still; kept = λ e. w _ (f.kept e) }
 
-pub passed_none : {m : Meaning} (K : List ℤ → Type 0) (row : List ℤ) → K row → Passed K m row row false
-passed_none K row k = record { found = λ s f. f; fell = λ e. absurd (false≢true e); still = λ _. refl; kept = λ _. k }
+edge_within : (l : Ledger) (p q : ℕ) (d : ℤ) → Edge (means l) p q d → (p ≤ 12) × (q ≤ 12) × InReach d
+edge_within l p q d (bound b h) = let w = l.within b h in let few = l.paired.1 in (omega arith, omega arith, w.1)
+edge_within l p q d (down _ h) = let o = in_order _ _ l.paired l.ordered p h in let few = l.paired.1 in (omega arith, omega arith, (omega (arith, ints), omega (arith, ints)))
+edge_within l p q d (up _ h) = let o = in_order _ _ l.paired l.ordered q h in let few = l.paired.1 in (omega arith, omega arith, (omega (arith, ints), omega (arith, ints)))
 
-module _ (l : Ledger) (o : Open (means l)) (row : List ℤ) (b : Bound) (e : Edge (means l) b.p b.q b.d) where
-  -- shortened or left
-  abbrev by : Bool → List ℤ
-  by r = cond r (set row b.q (entry row b.p +ℤ b.d)) row
+module _ (l : Lengths) (b : Bound) (e : Edge (means l.ledger.now) b.p b.q b.d) where
+  abbrev m : Meaning
+  m = means l.ledger.now
 
-  module _ (h : (entry row b.p +ℤ b.d) <ℤ entry row b.q) (s : ℕ) (f : Found (means l) s row) where
-    ends : (b.p ≤ lines (means l)) × (b.q ≤ lines (means l))
-    ends = let t = (ledger_right l o).tight _ _ _ e in (t.0, t.1)
+  right : Right m (distance m)
+  right = ledger_right l.ledger.now l.standing
 
-    way : Walk (means l) s b.q (entry row b.p +ℤ b.d)
-    way = walk_push (means l) s b.p b.q (entry row b.p) b.d (f.walk b.p ends.0) ends.1 e
+  ends : (b.p ≤ lines m) × (b.q ≤ lines m)
+  ends = let t = right.tight _ _ _ e in (t.0, t.1)
 
-    floor : neg_ℤ (pos 2880) ≤ℤ (entry row b.p +ℤ b.d)
-    floor = walk_floor l o s b.q _ f.line ends.1 way
+  -- both ends have a place in the row, and the way along the edge fits 16 bits
+  pub edge_fits : (b.p ≤ 12) × (b.q ≤ 12) × InReach b.d × Near (entry l.row b.p)
+  edge_fits = let w = edge_within l.ledger.now b.p b.q b.d e in (w.0, w.1, w.2, l.near b.p ends.0)
 
-    within : b.q < length row
-    within = let few = l.paired.1 in let size = f.size in let q = ends.1 in omega arith
+  -- the way along the edge is shorter
+  module _ (x : ℤ) (is : x ≡ entry l.row b.p +ℤ b.d) (h : x <ℤ entry l.row b.q) where
+    abbrev after : List ℤ
+    after = set l.row b.q x
 
-    here : entry (by true) b.q ≡ entry row b.p +ℤ b.d
-    here = get_or-set_same row b.q _ (pos 0) within
+    far_on : distance m l.start b.q ≤ℤ x
+    far_on =
+        let t = (right.tight b.p b.q b.d e).2 in
+        let r = right.round l.start b.p b.q l.line ends.0 ends.1 in
+        let f = l.far b.p ends.0 in
+        omega (arith, ints)
 
-    other : (j : ℕ) → j ≢ b.q → entry (by true) j ≡ entry row j
-    other j n = get_or-set_other row b.q j _ (pos 0) n
+    floor : neg_ℤ (pos 2880) ≤ℤ x
+    floor = let n = right_near m (distance m) right l.ledger.now.paired l.ledger.now.ordered l.start b.q l.line ends.1 in let f = far_on in omega (arith, ints)
+
+    within : b.q < length l.row
+    within = let few = l.ledger.now.paired.1 in let size = l.full in let i = ends.1 in omega arith
 
     -- what holds of the new length and of every old one holds of each
-    each : (P : ℕ → ℤ → Type 0) → P b.q (entry row b.p +ℤ b.d) → (j : ℕ) → P j (entry row j) → P j (entry (by true) j)
+    each : (P : ℕ → ℤ → Type 0) → P b.q x → (j : ℕ) → P j (entry l.row j) → P j (entry after j)
     each P new j old = elim (cases_eq j b.q) [
-      | inl z ↦ subst (λ i. P i (entry (by true) i)) (sym z) (subst (P b.q) (sym here) new)
-      | inr n ↦ subst (P j) (sym (other j n)) old
+      | inl z ↦ subst (λ i. P i (entry after i)) (sym z) (subst (P b.q) (sym (get_or-set_same l.row b.q x (pos 0) within)) new)
+      | inr n ↦ subst (P j) (sym (get_or-set_other l.row b.q j x (pos 0) n)) old
     ]
 
-    shortened_found : Found (means l) s (by true)
-    shortened_found = record {
-      size = length-set row b.q _ ∙ f.size;
-      line = f.line;
-      home = each (λ j x. j ≡ s → x ≤ℤ pos 0)
-          (λ z. let a = f.home in let c : entry row b.q ≡ entry row s = ap (entry row) z in omega (arith, ints))
-          s (λ _. f.home) refl;
-      walk = λ j hj. each (λ i x. Walk (means l) s i x) way j (f.walk j hj);
-      near = λ j hj. each (λ _ x. Near x) (let a = f.near b.q (let k = within in let size = f.size in omega arith) in let g = floor in (omega (arith, ints), omega (arith, ints))) j (f.near j hj);
-    }
+    pub shortened_home : entry after l.start ≤ℤ pos 0
+    shortened_home = each (λ j y. j ≡ l.start → y ≤ℤ pos 0)
+        (λ z. let a = l.home in let c : entry l.row b.q ≡ entry l.row l.start = ap (entry l.row) z in omega (arith, ints))
+        l.start (λ _. l.home) refl
 
-    shortened_falls : total (by true) < total row
-    shortened_falls = total_set row b.q _ within (above_less _ _ floor h)
+    pub shortened_far : (j : ℕ) → j ≤ lines m → distance m l.start j ≤ℤ entry after j
+    shortened_far j hj = each (λ i y. distance m l.start i ≤ℤ y) far_on j (l.far j hj)
 
-  by_passed : (s : ℕ) → Found (means l) s row → (r : Bool) → r ≡ shorter row b → Passed (Kept b) (means l) row (by r) r
-  by_passed s f true e = let h : (entry row b.p +ℤ b.d) <ℤ entry row b.q = omega (arith, ints) in record {
-    found = shortened_found h;
-    fell = λ _. shortened_falls h s f;
-    still = λ z. absurd (true≢false z);
-    kept = λ z. absurd (true≢false z);
-  }
-  by_passed s f false e = passed_none (Kept b) row (omega (arith, ints))
+    pub shortened_near : (j : ℕ) → j ≤ lines m → Near (entry after j)
+    shortened_near j hj = each (λ _ y. Near y) (let a = l.near b.q ends.1 in let g = floor in (omega (arith, ints), omega (arith, ints))) j (l.near j hj)
 
-  pub relaxed_passed : (s : ℕ) → Found (means l) s row → (after : List ℤ) (r : Bool) → r ≡ shorter row b → after ≡ relaxed row b → Passed (Kept b) (means l) row after r
-  relaxed_passed s f after r answer last = subst (λ z. Passed (Kept b) (means l) row z r) (sym (last ∙ ap by (sym answer))) (by_passed s f r answer)
+    pub shortened_falls : total after < total l.row
+    shortened_falls = total_set l.row b.q x within (above_less _ _ floor h)
 
 -- one bound more
 pub bounds_more : (bs : List Bound) (i : ℕ) (d : Bound) → i < length bs → (row : List ℤ) → BoundsKept (take i bs) row × Kept (get_or bs i d) row → BoundsKept (take (i + 1) bs) row
@@ -106,13 +107,3 @@ bounds_more bs i d h row k b x = elim (has_push_cases (take i bs) (get_or bs i d
 
 pub bound_stands : (l : Ledger) (bs : List Bound) (i : ℕ) (d : Bound) → bs ≡ (means l).bounds → i < length bs → ContainsAt (means l).bounds (get_or bs i d)
 bound_stands l bs i d e h = subst (λ xs. ContainsAt xs (get_or bs i d)) e (has_get_or bs i d h)
-
--- both edges of a range
-module _ (l : Ledger) (o : Open (means l)) (row : List ℤ) (s : ℕ) (f : Found (means l) s row) (r : ℕ) (h : r ≤ lines (means l)) (b : Bound) (x : Bool) where
-  pub highest_passed : b ≡ highest (means l) r → (after : List ℤ) → x ≡ shorter row b → after ≡ relaxed row b → Passed (Kept (highest (means l) r)) (means l) row after x
-  highest_passed e after answer last =
-      relaxed_passed l o row (highest (means l) r) (down r h) s f after x (answer ∙ ap (shorter row) e) (last ∙ ap (relaxed row) e)
-
-  pub lowest_passed : b ≡ lowest (means l) r → (after : List ℤ) → x ≡ shorter row b → after ≡ relaxed row b → Passed (Kept (lowest (means l) r)) (means l) row after x
-  lowest_passed e after answer last =
-      relaxed_passed l o row (lowest (means l) r) (up r h) s f after x (answer ∙ ap (shorter row) e) (last ∙ ap (relaxed row) e)

@@ -1,8 +1,8 @@
 -- A row of lengths from one line: what it holds at any time, what relaxing edges does to it, and what it tells in the end.
-use Rattle.std.specs.Prelude.{◌≡◌, ℕ, suc, ◌+◌, ◌-◌, ◌<◌, ◌≤◌, Bool, true, false, cond, List, [], ◌∷◌, length, ℤ, pos, negsuc, ◌+ℤ◌, neg_ℤ, ◌≤ℤ◌, ◌<ℤ◌, int_lt, slice_index_or, slice_set}
+use Rattle.std.specs.Prelude.{◌≡◌, ℕ, suc, ◌+◌, ◌-◌, ◌<◌, ◌≤◌, Bool, cond, List, [], ◌∷◌, ℤ, pos, negsuc, ◌+ℤ◌, neg_ℤ, ◌≤ℤ◌, ◌<ℤ◌, int_lt, slice_index_or, slice_set}
 use Rattle.std.specs.List.{ContainsAt}
 use Rattle.axis.specs.declared.model.Bound.{Bound}
-use Rattle.axis.specs.Meaning.{Meaning, with_bound, lines, low, high, Remains, Walk}
+use Rattle.axis.specs.Meaning.{Meaning, with_bound, lines, low, high, Remains}
 use Rattle.axis.specs.Asks.{Tightest}
 use Rattle.axis.specs.Distance.{Open}
 use Rattle.ledger.specs.Lengths.{Near}
@@ -10,18 +10,6 @@ use Rattle.ledger.specs.Lengths.{Near}
 -- the length to line j
 abbrev pub entry : List ℤ → ℕ → ℤ
 entry row j = slice_index_or row j (pos 0)
-
--- each length is that of a walk from line s
-pub record Found (m : Meaning) (s : ℕ) (row : List ℤ) : Type 0 where
-  pub size : length row ≡ 13
-  pub line : s ≤ lines m
-  pub home : entry row s ≤ℤ pos 0
-  pub walk : (j : ℕ) → j ≤ lines m → Walk m s j (entry row j)
-  pub near : (j : ℕ) → j < 13 → Near (entry row j)
-
--- from some line
-abbrev pub OfWalks : Meaning → List ℤ → Type 0
-OfWalks m row = (s : ℕ) × Found m s row
 
 -- does the edge make the way to its end shorter?
 abbrev pub shorter : List ℤ → Bound → Bool
@@ -51,6 +39,10 @@ RangeKept m r row = Kept (highest m r) row × Kept (lowest m r) row
 abbrev pub RangesKept : Meaning → ℕ → List ℤ → Type 0
 RangesKept m n row = (r : ℕ) → r < n → RangeKept m r row
 
+-- no edge shortens a way
+abbrev pub EdgesKept : Meaning → List ℤ → Type 0
+EdgesKept m row = BoundsKept m.bounds row × RangesKept m (lines m + 1) row
+
 -- how far the lengths can still fall, all together
 abbrev pub above : ℤ → ℕ
 above (pos n) = 2880 + n
@@ -60,13 +52,6 @@ abbrev pub total : List ℤ → ℕ
 total [] = 0
 total (x ∷ xs) = above x + total xs
 
--- some edges were relaxed: a length fell, or nothing changed, and then K holds
-pub record Passed (K : List ℤ → Type 0) (m : Meaning) (before after : List ℤ) (changed : Bool) : Type 0 where
-  pub found : (s : ℕ) → Found m s before → Found m s after
-  pub fell : changed ≡ true → total after < total before
-  pub still : changed ≡ false → after ≡ before
-  pub kept : changed ≡ false → K after
-
 -- x is the length from p to q, and tells whether a bound from q back to p leaves a placement
 pub record Length (m : Meaning) (p q : ℕ) (x : ℤ) : Type 0 where
   pub near : Near x
@@ -75,6 +60,6 @@ pub record Length (m : Meaning) (p q : ℕ) (x : ℤ) : Type 0 where
   pub leaves : (b : Bound) → b.p ≡ q → b.q ≡ p → pos 0 ≤ℤ (x +ℤ b.d) → Remains (with_bound m b)
   pub opens : (b : Bound) → b.p ≡ q → b.q ≡ p → pos 0 ≤ℤ (x +ℤ b.d) → Open (with_bound m b)
 
--- the row has the lengths from any line that its walks are from
-abbrev pub Complete : Meaning → List ℤ → Type 0
-Complete m row = (s : ℕ) → Found m s row → (q : ℕ) → q ≤ lines m → Length m s q (entry row q)
+-- the row has the lengths from line s
+abbrev pub Complete : Meaning → ℕ → List ℤ → Type 0
+Complete m s row = (q : ℕ) → q ≤ lines m → Length m s q (entry row q)

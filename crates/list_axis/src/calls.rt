@@ -41,6 +41,7 @@ impl Axis for ListAxis {
     fn put(&mut self, bound: Bound) -> Result<(), AxisFault> {
         self.ledger.admits(bound)?;
         let back = lengths_from(&self.ledger, bound.q as usize);
+        // Kept a call: with the sum written here, three goals of this function stay open that the check closes as it is.
         if along(back[bound.p as usize], bound.d) < 0 {
             return Err(AxisFault::NoPlacement);
         }

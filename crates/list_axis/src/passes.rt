@@ -1,97 +1,74 @@
 // Relaxing the edges of the distance graph: the bounds, and the ranges as bounds against line 0.
 ghost use Rattle.std.specs.Prelude.{◌≡◌, ℕ, ◌+◌, ◌<◌, ◌≤◌};
-ghost use Rattle.axis.specs.Asks.{Named, InReach};
-ghost use Rattle.axis.specs.Distance.{Open};
-ghost use Rattle.axis.specs.Meaning.{lines};
+ghost use Rattle.axis.specs.Meaning.{lines, Edge};
 ghost use Rattle.ledger.specs.Means.{means};
-ghost use Rattle.ledger.specs.Lengths.{Near};
-ghost use Rattle.list_axis.specs.Rows.{entry, shorter, relaxed, highest, lowest, OfWalks, BoundsKept, RangeKept, RangesKept, Complete, Passed};
+ghost use Rattle.list_axis.specs.Rows.{Kept, BoundsKept, RangeKept, RangesKept, EdgesKept};
+ghost use Rattle.list_axis.specs.Passing.{Passed};
 
+use crate::lengths::Lengths;
 use axis::Bound;
-use ledger::{Ledger, along};
 
-// Relaxes every edge once, and says whether that shortened a way.
-pub(crate) fn pass(ledger: &Ledger, row: &mut [i16; 13]) -> bool
-    requires standing { Open (means ledger.now) }
-    requires found { OfWalks (means ledger.now) row.old }
-    ensures { Passed (Complete (means ledger.now)) (means ledger.now) row.old row.new result }
-{
-    let bounds = pass_bounds(ledger, row);
-    let ranges = pass_ranges(ledger, row);
-    bounds | ranges
-}
-
-fn pass_bounds(ledger: &Ledger, row: &mut [i16; 13]) -> bool
-    requires standing { Open (means ledger.now) }
-    requires found { OfWalks (means ledger.now) row.old }
-    ensures { Passed (BoundsKept (means ledger.now).bounds) (means ledger.now) row.old row.new result }
-{
-    let mut changed = false;
-    for bound in ledger.bounds() {
-        changed |= relax(row, *bound);
+impl Lengths<'_> {
+    // Relaxes every edge once, and says whether that shortened a way.
+    pub fn pass(&mut self) -> bool
+        ensures { Passed EdgesKept self.old self.new result }
+    {
+        let bounds = self.pass_bounds();
+        let ranges = self.pass_ranges();
+        bounds | ranges
     }
-    changed
-}
 
-fn pass_ranges(ledger: &Ledger, row: &mut [i16; 13]) -> bool
-    requires standing { Open (means ledger.now) }
-    requires found { OfWalks (means ledger.now) row.old }
-    ensures { Passed (RangesKept (means ledger.now) (lines (means ledger.now) + 1)) (means ledger.now) row.old row.new result }
-{
-    let mut changed = false;
-    for line in 1..ledger.lines() + 1 {
-        changed |= pass_range(ledger, row, line as u8);
+    fn pass_bounds(&mut self) -> bool
+        ensures { Passed (λ m. BoundsKept m.bounds) self.old self.new result }
+    {
+        let mut changed = false;
+        for bound in self.ledger.bounds() {
+            changed |= self.relax(*bound);
+        }
+        changed
     }
-    changed
-}
 
-fn pass_range(ledger: &Ledger, row: &mut [i16; 13], line: u8) -> bool
-    requires standing { Open (means ledger.now) }
-    requires found { OfWalks (means ledger.now) row.old }
-    requires line { line ≤ lines (means ledger.now) }
-    ensures { Passed (RangeKept (means ledger.now) line) (means ledger.now) row.old row.new result }
-{
-    let down = relax(row, highest(ledger, line));
-    let up = relax(row, lowest(ledger, line));
-    down | up
-}
-
-// A line is at most at its high.
-fn highest(ledger: &Ledger, line: u8) -> Bound
-    requires { line ≤ lines (means ledger.now) }
-    ensures { result ≡ highest (means ledger.now) line }
-{
-    Bound {
-        p: line,
-        q: 0,
-        d: ledger.high(line as usize),
+    fn pass_ranges(&mut self) -> bool
+        ensures { Passed (λ m. RangesKept m (lines m + 1)) self.old self.new result }
+    {
+        let mut changed = false;
+        // Kept a range: a line is named by its number, and line 0 has no range.
+        for line in 1..self.ledger.lines() + 1 {
+            changed |= self.pass_range(line as u8);
+        }
+        changed
     }
-}
 
-// A line is at least at its low.
-fn lowest(ledger: &Ledger, line: u8) -> Bound
-    requires { line ≤ lines (means ledger.now) }
-    ensures { result ≡ lowest (means ledger.now) line }
-{
-    Bound {
-        p: 0,
-        q: line,
-        d: -ledger.low(line as usize),
+    // A line is at most at its high, and at least at its low.
+    fn pass_range(&mut self, line: u8) -> bool
+        requires { line ≤ lines (means self.old.ledger.now) }
+        ensures { Passed (λ m. RangeKept m line) self.old self.new result }
+    {
+        let high = self.ledger.high(line as usize);
+        let low = self.ledger.low(line as usize);
+        let down = self.relax(Bound {
+            p: line,
+            q: 0,
+            d: high,
+        });
+        let up = self.relax(Bound {
+            p: 0,
+            q: line,
+            d: -low,
+        });
+        down | up
     }
-}
 
-// Takes the way along the edge if it is shorter.
-fn relax(row: &mut [i16; 13], edge: Bound) -> bool
-    requires ends { Named 12 edge.p edge.q }
-    requires reach { InReach edge.d }
-    requires near { (j : ℕ) → j < 13 → Near (entry row.old j) }
-    ensures answer { result ≡ shorter row.old edge }
-    ensures after { row.new ≡ relaxed row.old edge }
-{
-    let length = along(row[edge.p as usize], edge.d);
-    if length < row[edge.q as usize] {
-        row[edge.q as usize] = length;
-        return true;
+    // Takes the way along the edge if it is shorter.
+    fn relax(&mut self, edge: Bound) -> bool
+        requires { Edge (means self.old.ledger.now) edge.p edge.q edge.d }
+        ensures { Passed (λ _. Kept edge) self.old self.new result }
+    {
+        let length = self.row[edge.p as usize] + edge.d;
+        if length < self.row[edge.q as usize] {
+            self.row[edge.q as usize] = length;
+            return true;
+        }
+        false
     }
-    false
 }

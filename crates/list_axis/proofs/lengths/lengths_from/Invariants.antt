@@ -1,9 +1,9 @@
-use Rattle.ledger.specs.Means.{means}
-use Rattle.list_axis.specs.Rows.{Found, total}
+use Rattle.std.proofs.Common.{◌≡◌}
+use Rattle.list_axis.specs.Rows.{total}
 use Rattle.list_axis.proofs.lengths.lengths_from.Given as goal
 
 abbrev pub invariant-loop : goal.invariant-loop
-invariant-loop l = Found (means l.ledger) l.start l.row
+invariant-loop l = (l.lengths.ledger.now ≡ l.ledger) × (l.lengths.start ≡ l.start)
 
 abbrev pub decreases-loop : goal.decreases-loop
-decreases-loop l = total l.row
+decreases-loop l = total l.lengths.row

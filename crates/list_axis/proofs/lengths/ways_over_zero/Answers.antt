@@ -1,15 +1,16 @@
-use Rattle.std.proofs.Common.{◌∙◌, arith, w16, SFits, rules}
-use Rattle.std.proofs.lemmas.Int.{to_z-of_z}
-use Rattle.list_axis.proofs.Ends.{begun_more, begun_all}
+use Rattle.std.proofs.Common.{◌≡◌, ◌≤◌, pos, refl, arith, rules}
+use Rattle.axis.specs.Distance.{base}
+use Rattle.ledger.specs.Means.{means}
+use Rattle.list_axis.proofs.Made.{made_each}
 use Rattle.list_axis.proofs.lengths.ways_over_zero.Goals as goal
 
-pub loop-line-preserved : goal.loop-line-preserved
-loop-line-preserved c =
-    let f : SFits w16 c.direct.result = search rules in
-    begun_more c.args.ledger.now c.args.start _ _ _ c.requires (omega arith) (to_z-of_z w16 _ f ∙ c.direct.ensures) c.loop-line.invariant
-
 pub returns : goal.returns
-returns c = record {
-  values = λ j h. c.loop-line.invariant.2 j (omega arith);
-  found = begun_all c.args.ledger.now _ _ c.loop-line.line c.requires (omega arith) c.loop-line.invariant;
-}
+returns c = λ j h.
+    let l = c.args.ledger.now in
+    let m = means l in
+    let n = c.lines-n.result in
+    made_each _
+    (λ f. (f.0.now ≡ l) × (f.1.now ≡ c.args.start) × (f.2.now ≡ n))
+    (λ i y. i ≤ n → y ≡ base m.lows m.highs c.args.start i)
+    (λ f i y after s k. search rules)
+    _ _ 0 13 j (pos 0) (refl, refl, refl) c.from_fn.ensures.items.each (omega arith) (omega arith) (omega arith)
