@@ -16,9 +16,9 @@ module _ (n : ℕ) (t : Table) (b : Bound) (o : Over) (few : n ≤ 12) (within :
 
   -- by the triangle law
   pub reads_pending : (rows columns : List ℕ)
-      → Listed n (λ i. t i b.q ≤ℤ (entry o.starts i +ℤ o.d)) rows → Listed n (λ j. t b.p j ≤ℤ (o.d +ℤ entry o.ends j)) columns → Pending t o rows columns
+      → Listed o.last (λ i. t i b.q ≤ℤ (entry o.starts i +ℤ o.d)) rows → Listed o.last (λ j. t b.p j ≤ℤ (o.d +ℤ entry o.ends j)) columns → Pending t o rows columns
   reads_pending rows columns lr lc = let e = reads.last in record {
-    row = λ i hi. elim (lr.all i (omega arith)) [
+    row = λ i hi. elim (lr.all i hi) [
       | inl x ↦ inl x
       | inr x ↦ inr (λ j hj.
           let w = way_is i j (omega arith, omega arith) in
@@ -27,7 +27,7 @@ module _ (n : ℕ) (t : Table) (b : Bound) (o : Over) (few : n ≤ 12) (within :
           let z = reads.length in
           omega (arith, ints))
     ];
-    column = λ j hj. elim (lc.all j (omega arith)) [
+    column = λ j hj. elim (lc.all j hj) [
       | inl x ↦ inl x
       | inr x ↦ inr (λ i hi.
           let w = way_is i j (omega arith, omega arith) in
@@ -36,8 +36,8 @@ module _ (n : ℕ) (t : Table) (b : Bound) (o : Over) (few : n ≤ 12) (within :
           let z = reads.length in
           omega (arith, ints))
     ];
-    row_within = λ i h. let z = lr.within i h in omega arith;
-    column_within = λ j h. let z = lc.within j h in omega arith;
+    row_within = lr.within;
+    column_within = lc.within;
   }
 
   pub reads_mended : (before after : List (List ℤ)) → t ≡ cell before → Mended o before after → Same n after (mend t b)

@@ -13,7 +13,6 @@ mod mending;
 mod over;
 mod rebuilding;
 mod table;
-mod worklists;
 
 #[derive(Drop)]
 pub struct MatrixAxis {

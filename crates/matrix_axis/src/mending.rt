@@ -8,7 +8,6 @@ ghost use Rattle.matrix_axis.specs.Mending.{Reads, Pending, Mended};
 
 use crate::over::Over;
 use crate::table::Table;
-use crate::worklists::list_nearer;
 use axis::Bound;
 use stack::Stack;
 
@@ -48,11 +47,11 @@ impl Table {
         let q = bound.q as usize;
         let over = self.over(last, bound);
         let mut row_slots = [u8::MAX; 13];
-        let mut rows = list_nearer(&mut row_slots, last, |i| {
+        let mut rows = over.list_nearer(&mut row_slots, |i| {
             over.starts[i] + over.d < self.rows[i][q]
         });
         let mut column_slots = [u8::MAX; 13];
-        let columns = list_nearer(&mut column_slots, last, |j| {
+        let columns = over.list_nearer(&mut column_slots, |j| {
             over.d + over.ends[j] < self.rows[p][j]
         });
         self.mend_rows(&over, &mut rows, columns.items());

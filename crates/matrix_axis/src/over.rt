@@ -1,7 +1,10 @@
 // The ways over a new bound.
-ghost use Rattle.std.specs.Prelude.{◌≡◌, ℕ, ◌<◌, ◌≤◌, ◌+ℤ◌, length, slice_index_or};
-ghost use Rattle.matrix_axis.specs.Cells.{entry};
-ghost use Rattle.matrix_axis.specs.Lists.{Short};
+ghost use Rattle.std.specs.Prelude.{◌≡◌, ℕ, ◌<◌, ◌≤◌, false, length, slice_index_or};
+ghost use Rattle.stack.specs.Stacks.{contents};
+ghost use Rattle.matrix_axis.specs.Lists.{Listed};
+ghost use Rattle.matrix_axis.specs.Ways.{Short};
+
+use stack::Stack;
 
 // On the lines 0 to last: the ways of each to the bound's start, its length, and the ways from its end to each.
 #[derive(Drop)]
@@ -23,6 +26,24 @@ impl Over {
         ensures { result ≡ way self.now i j }
     {
         self.starts[i] + (self.d + self.ends[j])
+    }
+
+    // Lists those of the lines that are nearer over the bound, on the memory lent.
+    pub fn list_nearer<'a, F: Fn(usize) -> bool>(
+        &self,
+        slots: &'a mut [u8; 13],
+        is_nearer: F,
+    ) -> Stack<'a, u8>
+        requires { (r : ℕ) → r ≤ self.now.last → F.pre is_nearer r }
+        ensures { Listed self.now.last (λ r. F.post is_nearer r false) (contents result) }
+    {
+        let mut list = Stack::new(slots);
+        for line in 0..self.last + 1 {
+            if is_nearer(line) {
+                let _ = list.push(line as u8);
+            }
+        }
+        list
     }
 
     // Lowers the row of line i, in the listed columns.

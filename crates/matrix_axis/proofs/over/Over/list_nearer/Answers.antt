@@ -1,7 +1,7 @@
 use Rattle.std.proofs.Common.{◌∙◌, arith}
 use Rattle.matrix_axis.proofs.Lines.{listed_more, listed_skip, listed_all}
-use Rattle.matrix_axis.proofs.worklists.list_nearer.Goals as goal
-use Rattle.matrix_axis.proofs.worklists.list_nearer.Goals.{then-is_nearer, else-is_nearer}
+use Rattle.matrix_axis.proofs.over.Over.list_nearer.Goals as goal
+use Rattle.matrix_axis.proofs.over.Over.list_nearer.Goals.{then-is_nearer, else-is_nearer}
 
 pub loop-line-preserved : goal.loop-line-preserved
 loop-line-preserved g c =

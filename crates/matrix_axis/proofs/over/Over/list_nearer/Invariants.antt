@@ -1,7 +1,7 @@
 use Rattle.std.proofs.Common.{◌≡◌, false, length}
 use Rattle.stack.specs.Stacks.{contents, memory}
 use Rattle.matrix_axis.proofs.Lines.{ListedBelow}
-use Rattle.matrix_axis.proofs.worklists.list_nearer.Given as goal
+use Rattle.matrix_axis.proofs.over.Over.list_nearer.Given as goal
 
 abbrev pub invariant-loop-line : goal.invariant-loop-line
 invariant-loop-line g l = record {
