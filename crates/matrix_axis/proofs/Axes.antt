@@ -1,5 +1,5 @@
 -- What a matrix axis knows from its own fields.
-use Rattle.std.proofs.Common.{◌≡◌, ℕ, ◌<◌, List, [], ℤ, pos, replicate, sym, ap, ◌∙◌, subst, arith}
+use Rattle.std.proofs.Common.{◌≡◌, ℕ, List, [], ℤ, pos, replicate, sym, ap, ◌∙◌, subst, arith}
 use Rattle.std.proofs.lemmas.List.{get_or-replicate}
 use Rattle.axis.specs.Meaning.{Meaning, new, lines}
 use Rattle.axis.specs.Asks.{Named, Tightest}

@@ -1,16 +1,15 @@
 -- A table with the shortest lengths: what mending it needs, and that it has them again after one bound more.
-use Rattle.std.proofs.Common.{◌≡◌, ℕ, ◌+◌, ◌*◌, ◌/◌, ◌%◌, ◌<◌, ◌≤◌, List, length, get_or, take, drop, set, ℤ, pos, ◌+ℤ◌, sym, ap, ◌∙◌, subst, inl, inr, arith}
+use Rattle.std.proofs.Common.{◌≡◌, ℕ, ◌+◌, ◌<◌, List, length, get_or, take, drop, ℤ, ◌+ℤ◌, sym, ap, ◌∙◌, subst, arith}
 use Rattle.std.specs.Int.{int_min}
 use Rattle.std.proofs.lemmas.Int.{ints}
-use Rattle.std.proofs.lemmas.Bool.{cases_eq}
-use Rattle.std.proofs.lemmas.List.{take-append-drop, take_more, get_or-set_same, get_or-set_other}
+use Rattle.std.proofs.lemmas.List.{take-append-drop, take_more}
 use Rattle.std.proofs.ByRecursion.{has_append_left, has_get_or}
 use Rattle.axis.specs.declared.model.Bound.{Bound}
 use Rattle.axis.specs.Meaning.{Meaning, with_bound, lines}
 use Rattle.axis.specs.Asks.{Paired, Ordered, Named, AllWithin}
 use Rattle.axis.specs.Distance.{Table, base, mend, mended, distance, Open, Right}
 use Rattle.axis.proofs.Distances.{distance_right, right_near, mended_push, open_parts}
-use Rattle.matrix_axis.specs.Cells.{entry, cell, Same, Kept, Closed}
+use Rattle.matrix_axis.specs.Cells.{cell, Same, Kept, Closed}
 
 pub right_closed : (m : Meaning) (t : Table) (rows : List (List ℤ)) → Right m t → Paired m.lows m.highs → Ordered m.lows m.highs → Same (lines m) rows t → Closed (lines m) (cell rows)
 right_closed m t rows r paired ordered s = record {

@@ -1,13 +1,8 @@
-use Rattle.std.proofs.Common.{◌≡◌, get_or, pos, sym, ◌∙◌, subst, arith, w16, SFits, to_z, of_z, rules}
-use Rattle.std.specs.Int.{int_min}
+use Rattle.std.proofs.Common.{get_or, pos, arith, w16, SFits, rules}
 use Rattle.std.proofs.lemmas.Int.{to_z-of_z}
-use Rattle.std.proofs.lemmas.List.{take_more, take_all}
-use Rattle.matrix_axis.specs.Mending.{RowMended}
-use Rattle.matrix_axis.proofs.Mends.{row_more, row_none}
+use Rattle.std.proofs.lemmas.List.{take_more}
+use Rattle.matrix_axis.proofs.Mends.{row_more}
 use Rattle.matrix_axis.proofs.over.Over.mend_row.Goals as goal
-
-pub loop-j-init : goal.loop-j-init
-loop-j-init c = record { size = search rules; mended = row_none _ _ _ }
 
 pub loop-j-preserved : goal.loop-j-preserved
 loop-j-preserved c =
@@ -22,6 +17,3 @@ loop-j-preserved c =
       size = search rules;
       mended = rw (take_more columns k 0 c.loop-j-test.true) (row_more _ _ _ _ _ _ _ c.way.result (omega arith) before.mended c.way.ensures (grind (arith, to_z-of_z)));
     }
-
-pub returns : goal.returns
-returns c = let past = c.loop-j-test.false in rw take_all at c.loop-j.invariant.mended

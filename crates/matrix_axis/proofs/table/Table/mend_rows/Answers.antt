@@ -1,13 +1,9 @@
-use Rattle.std.proofs.Common.{◌≡◌, ℕ, ◌≤◌, [], ◌∷◌, ◌++◌, List, take, sym, ap, subst, arith, rules, length-set, ℤ}
-use Rattle.std.proofs.ByRecursion.{has_push, has_get_or}
-use Rattle.std.specs.List.{ContainsAt}
+use Rattle.std.proofs.Common.{◌≡◌, [], List, take, ap, subst, arith, rules, length-set, ℤ}
+use Rattle.std.proofs.ByRecursion.{has_get_or}
 use Rattle.stack.specs.Stacks.{contents, memory}
 use Rattle.matrix_axis.specs.Cells.{cell}
-use Rattle.matrix_axis.proofs.Mends.{Mending, mending_line, mending_none, mending_more, mending_all}
+use Rattle.matrix_axis.proofs.Mends.{Mending, mending_line, mending_more, mending_all}
 use Rattle.matrix_axis.proofs.table.Table.mend_rows.Goals as goal
-
-pub loop-i-init : goal.loop-i-init
-loop-i-init c = mending_none _ _ _ _ c.requires
 
 pub bounds-self-i : goal.bounds-self-i
 bounds-self-i c = let line = mending_line _ c.args.columns.now _ _ _ _ _ c.loop-i.invariant c.in-Ok.ensures.after.items in omega arith
