@@ -1,7 +1,6 @@
 -- After one bound came or went, the bounds are within reach of the lines and close no negative ring, as before.
-use Rattle.std.proofs.Common.{◌≡◌, ℕ, ◌≤◌, true, List, [], ◌∷◌, ◌++◌, length, Some, None, Option, sym, ◌∙◌, subst, inl, inr, arith}
+use Rattle.std.proofs.Common.{◌≡◌, ℕ, true, List, [], ◌∷◌, ◌++◌, Some, None, Option, sym, ◌∙◌, subst, inl, inr}
 use Rattle.std.specs.List.{ContainsAt}
-use Rattle.std.proofs.lemmas.List.{length-append}
 use Rattle.std.proofs.ByRecursion.{has_append_left, has_push_cases}
 use Rattle.axis.specs.Asks.{Within, AllWithin}
 use Rattle.axis.specs.Distance.{Table, open_from}
@@ -16,10 +15,6 @@ module _ (before after : List Bound) where
   pub within_pop : (n : ℕ) (newest : Option Bound) → Parted before newest after → AllWithin n before → AllWithin n after
   within_pop n (Some b) e h = λ c x. h c (subst (λ bs. ContainsAt bs c) (sym e) (has_append_left after (b ∷ []) c x))
   within_pop n None e h = subst (AllWithin n) (e.0 ∙ sym e.1) h
-
-  pub few_pop : (newest : Option Bound) → Parted before newest after → length before ≤ 90 → length after ≤ 90
-  few_pop (Some b) e h = let k : length (after ++ b ∷ []) ≤ 90 = subst (λ bs. length bs ≤ 90) e h in omega (arith, length-append after (b ∷ []))
-  few_pop None e h = subst (λ bs. length bs ≤ 90) (e.0 ∙ sym e.1) h
 
   pub open_pop : (t : Table) (newest : Option Bound) → Parted before newest after → open_from t before ≡ true → open_from t after ≡ true
   open_pop t (Some b) e o = (open_parts t after (b ∷ []) (subst (λ bs. open_from t bs ≡ true) e o)).0

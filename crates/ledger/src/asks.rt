@@ -85,7 +85,7 @@ impl Ledger {
         ensures { Admits (means self.now) bound result }
     {
         self.names(bound.p, bound.q)?;
-        if bound.d < -4000 || bound.d > 4000 {
+        if !(-4000..=4000).contains(&bound.d) {
             return Err(AxisFault::Length);
         }
         if self.count() >= 90 {

@@ -1,5 +1,5 @@
 // How a ledger begins and changes.
-ghost use Rattle.std.specs.Prelude.{◌≡◌, ℕ, ◌<◌, ◌≤◌, true, false, [], ◌∷◌, ◌++◌, length, IfOk};
+ghost use Rattle.std.specs.Prelude.{◌≡◌, ℕ, ◌<◌, ◌≤◌, IsTrue, ◌↔◌, [], ◌∷◌, ◌++◌, length, IfOk};
 ghost use Rattle.axis.specs.Meaning.{new, lines, with_bound};
 ghost use Rattle.axis.specs.Asks.{Reset, Within, Paired, Ordered};
 ghost use Rattle.axis.specs.Distance.{Open};
@@ -68,8 +68,7 @@ fn refill(ranges: &mut Held<Range, 12>, lows: &[i16], highs: &[i16])
 // Is every low from 0 to 2880, and every high from its low to 2880?
 fn ordered(lows: &[i16], highs: &[i16]) -> bool
     requires { length lows.now ≡ length highs.now }
-    ensures yes { result ≡ true → Ordered lows.now highs.now }
-    ensures no { result ≡ false → Ordered lows.now highs.now → ⊥ }
+    ensures { IsTrue result ↔ Ordered lows.now highs.now }
 {
     lows.iter()
         .zip(highs)

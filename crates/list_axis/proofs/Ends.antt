@@ -1,5 +1,5 @@
 -- The lengths begin as those of the ways over line 0, and end as the shortest.
-use Rattle.std.proofs.Common.{◌≡◌, ℕ, ◌≤◌, List, ℤ, ◌+ℤ◌, ◌-ℤ◌, ◌≤ℤ◌, sym, subst, inl, inr, arith}
+use Rattle.std.proofs.Common.{◌≡◌, ℕ, ◌≤◌, List, ℤ, ◌+ℤ◌, ◌-ℤ◌, ◌≤ℤ◌, sym, refl, subst, inl, inr, arith}
 use Rattle.std.proofs.lemmas.Int.{ints}
 use Rattle.std.proofs.lemmas.Bool.{cases_eq}
 use Rattle.axis.specs.Meaning.{Meaning, lines, Placement, down, up, Walk}
@@ -12,11 +12,11 @@ use Rattle.ledger.specs.Means.{means}
 use Rattle.ledger.specs.Lengths.{Near}
 use Rattle.ledger.proofs.Open.{ledger_right}
 use Rattle.list_axis.specs.declared.lengths.Lengths.{Lengths}
-use Rattle.list_axis.specs.Rows.{entry, EdgesKept, Complete}
+use Rattle.list_axis.specs.Rows.{entry, Found, EdgesKept, Complete}
 use Rattle.list_axis.proofs.Told.{shortest_length}
 
 module _ (l : Ledger) where
-  pub base_near : (i j : ℕ) → i ≤ lines (means l) → j ≤ lines (means l) → Near (base (means l).lows (means l).highs i j)
+  base_near : (i j : ℕ) → i ≤ lines (means l) → j ≤ lines (means l) → Near (base (means l).lows (means l).highs i j)
   base_near i j hi hj =
       let a = in_order _ _ l.paired l.ordered i hi in
       let b = in_order _ _ l.paired l.ordered j hj in
@@ -26,7 +26,7 @@ module _ (l : Ledger) where
       ]
 
   -- no bound makes a length longer
-  pub base_far : Open (means l) → (i j : ℕ) → i ≤ lines (means l) → j ≤ lines (means l) → distance (means l) i j ≤ℤ base (means l).lows (means l).highs i j
+  base_far : Open (means l) → (i j : ℕ) → i ≤ lines (means l) → j ≤ lines (means l) → distance (means l) i j ≤ℤ base (means l).lows (means l).highs i j
   base_far o i j hi hj =
       let r = ledger_right l o in
       let a = r.tight i 0 _ (down i hi) in
@@ -36,6 +36,13 @@ module _ (l : Ledger) where
         | inl e ↦ (let z = base_self (means l).lows (means l).highs i j e in let s = r.self i hi in let t : distance (means l) i j ≡ distance (means l) i i = cc in omega (arith, ints))
         | inr n ↦ (let z = base_over (means l).lows (means l).highs i j n in omega (arith, ints))
       ]
+
+  pub base_found : Open (means l) → (s : ℕ) → s ≤ lines (means l) → (row : List ℤ) → ((j : ℕ) → j ≤ lines (means l) → entry row j ≡ base (means l).lows (means l).highs s j) → Found (means l) s row
+  base_found o s h row is = record {
+    home = omega (arith, ints, is s h, base_self (means l).lows (means l).highs s s refl);
+    far = λ j hj. let b = base_far o s j h hj in omega (arith, ints, is j hj);
+    near = λ j hj. let b = base_near s j h hj in let e = is j hj in (omega (arith, ints), omega (arith, ints));
+  }
 
 module _ (m : Meaning) (row : List ℤ) (k : EdgesKept m row) where
   -- how far each line is before line 0
@@ -55,8 +62,8 @@ row_complete l k q h =
     let m = means l.ledger.now in
     let w = (ledger_right l.ledger.now l.standing).walk l.start q l.line h in
     let a = settled_least m l.row k l.start q _ w in
-    let b = l.far q h in
-    let s = l.home in
+    let b = l.found.far q h in
+    let s = l.found.home in
     let e : entry l.row q ≡ distance m l.start q = omega (arith, ints) in
     shortest_length l.ledger.now l.standing l.start q (entry l.row q) l.line h e
 

@@ -6,8 +6,7 @@ use Rattle.std.proofs.ByRecursion.{has_get_or, has_push_cases}
 use Rattle.std.proofs.lemmas.Int.{ints}
 use Rattle.std.proofs.lemmas.Bool.{cases_eq, or_cases, or_parts}
 use Rattle.axis.specs.declared.model.Bound.{Bound}
-use Rattle.axis.specs.Meaning.{Meaning, lines, Edge, bound, down, up}
-use Rattle.axis.specs.Asks.{InReach}
+use Rattle.axis.specs.Meaning.{Meaning, lines, bound, down, up}
 use Rattle.axis.specs.Distance.{Right, distance}
 use Rattle.axis.proofs.Distances.{in_order, right_near}
 use Rattle.ledger.specs.declared.Ledger.{Ledger}
@@ -15,7 +14,7 @@ use Rattle.ledger.specs.Means.{means}
 use Rattle.ledger.specs.Lengths.{Near}
 use Rattle.ledger.proofs.Open.{ledger_right}
 use Rattle.list_axis.specs.declared.lengths.Lengths.{Lengths}
-use Rattle.list_axis.specs.Rows.{entry, total, Kept, BoundsKept}
+use Rattle.list_axis.specs.Rows.{entry, Found, IsEdge, total, Kept, BoundsKept, highest, lowest}
 use Rattle.list_axis.specs.Passing.{Passed}
 use Rattle.list_axis.proofs.Totals.{above_less, total_set}
 
@@ -40,63 +39,56 @@ module _ {J K : Meaning → List ℤ → Type 0} {a b : Lengths} where
   pub passed_weaker : (x : Bool) → ((row : List ℤ) → J (means a.ledger.now) row → K (means a.ledger.now) row) → Passed J a b x → Passed K a b x
   passed_weaker x w f = record { ledger = f.ledger; start = f.start; fell = f.fell; still = f.still; kept = λ e. w _ (f.kept e) }
 
-edge_within : (l : Ledger) (p q : ℕ) (d : ℤ) → Edge (means l) p q d → (p ≤ 12) × (q ≤ 12) × InReach d
-edge_within l p q d (bound b h) = let w = l.within b h in let few = l.paired.1 in (omega arith, omega arith, w.1)
-edge_within l p q d (down _ h) = let o = in_order _ _ l.paired l.ordered p h in let few = l.paired.1 in (omega arith, omega arith, (omega (arith, ints), omega (arith, ints)))
-edge_within l p q d (up _ h) = let o = in_order _ _ l.paired l.ordered q h in let few = l.paired.1 in (omega arith, omega arith, (omega (arith, ints), omega (arith, ints)))
+-- the range of a line is two edges
+module _ (l : Ledger) (r : ℕ) (h : r ≤ lines (means l)) where
+  pub down_edge : IsEdge (means l) (highest (means l) r)
+  down_edge = let o = in_order _ _ l.paired l.ordered r h in (down r h, ((h, omega arith), (omega (arith, ints), omega (arith, ints))))
 
-module _ (l : Lengths) (b : Bound) (e : Edge (means l.ledger.now) b.p b.q b.d) where
+  pub up_edge : IsEdge (means l) (lowest (means l) r)
+  up_edge = let o = in_order _ _ l.paired l.ordered r h in (up r h, ((omega arith, h), (omega (arith, ints), omega (arith, ints))))
+
+-- the way along an edge is shorter
+module _ (l : Lengths) (b : Bound) (e : IsEdge (means l.ledger.now) b) (x : ℤ) (is : x ≡ entry l.row b.p +ℤ b.d) (h : x <ℤ entry l.row b.q) where
   abbrev m : Meaning
   m = means l.ledger.now
+
+  abbrev after : List ℤ
+  after = set l.row b.q x
 
   right : Right m (distance m)
   right = ledger_right l.ledger.now l.standing
 
-  ends : (b.p ≤ lines m) × (b.q ≤ lines m)
-  ends = let t = right.tight _ _ _ e in (t.0, t.1)
+  far_on : distance m l.start b.q ≤ℤ x
+  far_on =
+      let t = (right.tight b.p b.q b.d e.0).2 in
+      let r = right.round l.start b.p b.q l.line e.1.0.0 e.1.0.1 in
+      let f = l.found.far b.p e.1.0.0 in
+      omega (arith, ints)
 
-  -- both ends have a place in the row, and the way along the edge fits 16 bits
-  pub edge_fits : (b.p ≤ 12) × (b.q ≤ 12) × InReach b.d × Near (entry l.row b.p)
-  edge_fits = let w = edge_within l.ledger.now b.p b.q b.d e in (w.0, w.1, w.2, l.near b.p ends.0)
+  floor : neg_ℤ (pos 2880) ≤ℤ x
+  floor = let n = right_near m (distance m) right l.ledger.now.paired l.ledger.now.ordered l.start b.q l.line e.1.0.1 in let f = far_on in omega (arith, ints)
 
-  -- the way along the edge is shorter
-  module _ (x : ℤ) (is : x ≡ entry l.row b.p +ℤ b.d) (h : x <ℤ entry l.row b.q) where
-    abbrev after : List ℤ
-    after = set l.row b.q x
+  within : b.q < length l.row
+  within = let few = l.ledger.now.paired.1 in let size = l.full in let i = e.1.0.1 in omega arith
 
-    far_on : distance m l.start b.q ≤ℤ x
-    far_on =
-        let t = (right.tight b.p b.q b.d e).2 in
-        let r = right.round l.start b.p b.q l.line ends.0 ends.1 in
-        let f = l.far b.p ends.0 in
-        omega (arith, ints)
+  -- what holds of the new length and of every old one holds of each
+  each : (P : ℕ → ℤ → Type 0) → P b.q x → (j : ℕ) → P j (entry l.row j) → P j (entry after j)
+  each P new j old = elim (cases_eq j b.q) [
+    | inl z ↦ subst (λ i. P i (entry after i)) (sym z) (subst (P b.q) (sym (get_or-set_same l.row b.q x (pos 0) within)) new)
+    | inr n ↦ subst (P j) (sym (get_or-set_other l.row b.q j x (pos 0) n)) old
+  ]
 
-    floor : neg_ℤ (pos 2880) ≤ℤ x
-    floor = let n = right_near m (distance m) right l.ledger.now.paired l.ledger.now.ordered l.start b.q l.line ends.1 in let f = far_on in omega (arith, ints)
+  pub shortened_found : Found m l.start after
+  shortened_found = record {
+    home = each (λ j y. j ≡ l.start → y ≤ℤ pos 0)
+        (λ z. let a = l.found.home in let c : entry l.row b.q ≡ entry l.row l.start = ap (entry l.row) z in omega (arith, ints))
+        l.start (λ _. l.found.home) refl;
+    far = λ j hj. each (λ i y. distance m l.start i ≤ℤ y) far_on j (l.found.far j hj);
+    near = λ j hj. each (λ _ y. Near y) (let a = l.found.near b.q e.1.0.1 in let g = floor in (omega (arith, ints), omega (arith, ints))) j (l.found.near j hj);
+  }
 
-    within : b.q < length l.row
-    within = let few = l.ledger.now.paired.1 in let size = l.full in let i = ends.1 in omega arith
-
-    -- what holds of the new length and of every old one holds of each
-    each : (P : ℕ → ℤ → Type 0) → P b.q x → (j : ℕ) → P j (entry l.row j) → P j (entry after j)
-    each P new j old = elim (cases_eq j b.q) [
-      | inl z ↦ subst (λ i. P i (entry after i)) (sym z) (subst (P b.q) (sym (get_or-set_same l.row b.q x (pos 0) within)) new)
-      | inr n ↦ subst (P j) (sym (get_or-set_other l.row b.q j x (pos 0) n)) old
-    ]
-
-    pub shortened_home : entry after l.start ≤ℤ pos 0
-    shortened_home = each (λ j y. j ≡ l.start → y ≤ℤ pos 0)
-        (λ z. let a = l.home in let c : entry l.row b.q ≡ entry l.row l.start = ap (entry l.row) z in omega (arith, ints))
-        l.start (λ _. l.home) refl
-
-    pub shortened_far : (j : ℕ) → j ≤ lines m → distance m l.start j ≤ℤ entry after j
-    shortened_far j hj = each (λ i y. distance m l.start i ≤ℤ y) far_on j (l.far j hj)
-
-    pub shortened_near : (j : ℕ) → j ≤ lines m → Near (entry after j)
-    shortened_near j hj = each (λ _ y. Near y) (let a = l.near b.q ends.1 in let g = floor in (omega (arith, ints), omega (arith, ints))) j (l.near j hj)
-
-    pub shortened_falls : total after < total l.row
-    shortened_falls = total_set l.row b.q x within (above_less _ _ floor h)
+  pub shortened_falls : total after < total l.row
+  shortened_falls = total_set l.row b.q x within (above_less _ _ floor h)
 
 -- one bound more
 pub bounds_more : (bs : List Bound) (i : ℕ) (d : Bound) → i < length bs → (row : List ℤ) → BoundsKept (take i bs) row × Kept (get_or bs i d) row → BoundsKept (take (i + 1) bs) row
@@ -105,5 +97,5 @@ bounds_more bs i d h row k b x = elim (has_push_cases (take i bs) (get_or bs i d
   | inr e ↦ subst (λ c. Kept c row) e k.1
 ]
 
-pub bound_stands : (l : Ledger) (bs : List Bound) (i : ℕ) (d : Bound) → bs ≡ (means l).bounds → i < length bs → ContainsAt (means l).bounds (get_or bs i d)
-bound_stands l bs i d e h = subst (λ xs. ContainsAt xs (get_or bs i d)) e (has_get_or bs i d h)
+pub bound_edge : (l : Ledger) (bs : List Bound) (i : ℕ) (d : Bound) → bs ≡ (means l).bounds → i < length bs → IsEdge (means l) (get_or bs i d)
+bound_edge l bs i d e h = let x : ContainsAt (means l).bounds (get_or bs i d) = subst (λ xs. ContainsAt xs (get_or bs i d)) e (has_get_or bs i d h) in (bound _ x, l.within _ x)

@@ -2,14 +2,24 @@
 use Rattle.std.specs.Prelude.{◌≡◌, ℕ, suc, ◌+◌, ◌-◌, ◌<◌, ◌≤◌, Bool, cond, List, [], ◌∷◌, ℤ, pos, negsuc, ◌+ℤ◌, neg_ℤ, ◌≤ℤ◌, ◌<ℤ◌, int_lt, slice_index_or, slice_set}
 use Rattle.std.specs.List.{ContainsAt}
 use Rattle.axis.specs.declared.model.Bound.{Bound}
-use Rattle.axis.specs.Meaning.{Meaning, with_bound, lines, low, high, Remains}
-use Rattle.axis.specs.Asks.{Tightest}
-use Rattle.axis.specs.Distance.{Open}
+use Rattle.axis.specs.Meaning.{Meaning, with_bound, lines, low, high, Edge, Remains}
+use Rattle.axis.specs.Asks.{Within, Tightest}
+use Rattle.axis.specs.Distance.{Open, distance}
 use Rattle.ledger.specs.Lengths.{Near}
 
 -- the length to line j
 abbrev pub entry : List ℤ → ℕ → ℤ
 entry row j = slice_index_or row j (pos 0)
+
+-- the lengths of ways from line s: none is shorter than the shortest, and line s is at no distance from itself
+pub record Found (m : Meaning) (s : ℕ) (row : List ℤ) : Type 0 where
+  pub home : entry row s ≤ℤ pos 0
+  pub far : (j : ℕ) → j ≤ lines m → distance m s j ≤ℤ entry row j
+  pub near : (j : ℕ) → j ≤ lines m → Near (entry row j)
+
+-- an edge from a line to a line, as long as a bound can be
+abbrev pub IsEdge : Meaning → Bound → Type 0
+IsEdge m b = Edge m b.p b.q b.d × Within (lines m) b
 
 -- does the edge make the way to its end shorter?
 abbrev pub shorter : List ℤ → Bound → Bool

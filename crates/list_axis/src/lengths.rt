@@ -1,10 +1,9 @@
 // The lengths from one line, worked out by relaxing the edges until none shortens a way.
-ghost use Rattle.std.specs.Prelude.{◌≡◌, ℕ, ◌<◌, ◌≤◌, length, pos, ◌≤ℤ◌};
-ghost use Rattle.axis.specs.Distance.{Open, base, distance};
+ghost use Rattle.std.specs.Prelude.{◌≡◌, ◌≤◌, length};
+ghost use Rattle.axis.specs.Distance.{Open};
 ghost use Rattle.axis.specs.Meaning.{lines};
 ghost use Rattle.ledger.specs.Means.{means};
-ghost use Rattle.ledger.specs.Lengths.{Near};
-ghost use Rattle.list_axis.specs.Rows.{entry, Complete};
+ghost use Rattle.list_axis.specs.Rows.{Found, Complete};
 
 use ledger::Ledger;
 use std::array;
@@ -18,9 +17,7 @@ pub struct Lengths<'a> {
     ghost standing: { Open (means ledger.now) },
     ghost line: { start ≤ lines (means ledger.now) },
     ghost full: { length row ≡ 13 },
-    ghost home: { entry row start ≤ℤ pos 0 },
-    ghost far: { (j : ℕ) → j ≤ lines (means ledger.now) → distance (means ledger.now) start j ≤ℤ entry row j },
-    ghost near: { (j : ℕ) → j ≤ lines (means ledger.now) → Near (entry row j) },
+    ghost found: { Found (means ledger.now) start row },
 }
 
 // The length to line j is at place j.
@@ -37,8 +34,9 @@ pub fn lengths_from(ledger: &Ledger, start: usize) -> [i16; 13]
 
 // Every way leads over line 0.
 fn ways_over_zero(ledger: &Ledger, start: usize) -> [i16; 13]
-    requires { start ≤ lines (means ledger.now) }
-    ensures { (j : ℕ) → j ≤ lines (means ledger.now) → entry result j ≡ base (means ledger.now).lows (means ledger.now).highs start j }
+    requires standing { Open (means ledger.now) }
+    requires line { start ≤ lines (means ledger.now) }
+    ensures { Found (means ledger.now) start result }
 {
     let n = ledger.lines();
     // what stands past the last line is never read

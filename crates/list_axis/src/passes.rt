@@ -1,8 +1,8 @@
 // Relaxing the edges of the distance graph: the bounds, and the ranges as bounds against line 0.
 ghost use Rattle.std.specs.Prelude.{◌≡◌, ℕ, ◌+◌, ◌<◌, ◌≤◌};
-ghost use Rattle.axis.specs.Meaning.{lines, Edge};
+ghost use Rattle.axis.specs.Meaning.{lines};
 ghost use Rattle.ledger.specs.Means.{means};
-ghost use Rattle.list_axis.specs.Rows.{Kept, BoundsKept, RangeKept, RangesKept, EdgesKept};
+ghost use Rattle.list_axis.specs.Rows.{IsEdge, Kept, BoundsKept, RangeKept, RangesKept, EdgesKept};
 ghost use Rattle.list_axis.specs.Passing.{Passed};
 
 use crate::lengths::Lengths;
@@ -61,7 +61,7 @@ impl Lengths<'_> {
 
     // Takes the way along the edge if it is shorter.
     fn relax(&mut self, edge: Bound) -> bool
-        requires { Edge (means self.old.ledger.now) edge.p edge.q edge.d }
+        requires { IsEdge (means self.old.ledger.now) edge }
         ensures { Passed (λ _. Kept edge) self.old self.new result }
     {
         let length = self.row[edge.p as usize] + edge.d;
