@@ -1,8 +1,7 @@
 -- What mending does to a table, by the ways over a bound.
-use Rattle.std.specs.Prelude.{◌≡◌, ℕ, ◌<◌, ◌≤◌, ◌⊎◌, List, ℤ, ◌+ℤ◌, ◌≤ℤ◌}
+use Rattle.std.specs.Prelude.{ℕ, ◌≤◌, ◌⊎◌, List, ℤ, ◌+ℤ◌, ◌≤ℤ◌}
 use Rattle.std.specs.Int.{int_min}
 use Rattle.std.specs.List.{ContainsAt}
-use Rattle.axis.specs.declared.model.Bound.{Bound}
 use Rattle.axis.specs.Distance.{Table}
 use Rattle.matrix_axis.specs.Cells.{entry, cell, Same}
 use Rattle.matrix_axis.specs.declared.over.Over.{Over}
@@ -10,13 +9,6 @@ use Rattle.matrix_axis.specs.declared.over.Over.{Over}
 -- from line i to the bound's start, over it, and on from its end to line j
 abbrev pub way : Over → Table
 way o i j = entry o.starts i +ℤ (o.d +ℤ entry o.ends j)
-
--- the parts of o are those of the bound b in the table t, on the lines 0 to n
-pub record Reads (n : ℕ) (t : Table) (b : Bound) (o : Over) : Type 0 where
-  pub last : o.last ≡ n
-  pub starts : (i : ℕ) → i < 13 → entry o.starts i ≡ t i b.p
-  pub ends : (j : ℕ) → j < 13 → entry o.ends j ≡ t b.q j
-  pub length : o.d ≡ b.d
 
 -- a row that is not listed has no length to mend, nor has such a column
 pub record Pending (t : Table) (o : Over) (rows columns : List ℕ) : Type 0 where

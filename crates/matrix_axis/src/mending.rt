@@ -4,7 +4,7 @@ ghost use Rattle.stack.specs.Stacks.{contents};
 ghost use Rattle.axis.specs.Asks.{Within};
 ghost use Rattle.axis.specs.Distance.{mend};
 ghost use Rattle.matrix_axis.specs.Cells.{cell, Same, Closed};
-ghost use Rattle.matrix_axis.specs.Mending.{Reads, Pending, Mended};
+ghost use Rattle.matrix_axis.specs.Mending.{Pending, Mended};
 
 use crate::over::Over;
 use crate::table::Table;
@@ -21,21 +21,6 @@ impl Table {
         }
     }
 
-    // The ways over the bound, as they are before it stands.
-    fn over(&self, last: usize, bound: Bound) -> Over
-        requires few { last ≤ 12 }
-        requires within { Within last bound }
-        requires closed { Closed last (cell self.now.rows) }
-        ensures { Reads last (cell self.now.rows) bound result }
-    {
-        Over {
-            last,
-            starts: self.column(bound.p as usize),
-            d: bound.d,
-            ends: self.row(bound.q as usize),
-        }
-    }
-
     // One bound more, on the lines 0 to last.
     pub fn mend(&mut self, last: usize, bound: Bound)
         requires few { last ≤ 12 }
@@ -45,7 +30,12 @@ impl Table {
     {
         let p = bound.p as usize;
         let q = bound.q as usize;
-        let over = self.over(last, bound);
+        let over = Over {
+            last,
+            starts: self.column(p),
+            d: bound.d,
+            ends: self.row(q),
+        };
         let mut row_slots = [u8::MAX; 13];
         let mut rows = over.list_nearer(&mut row_slots, |i| {
             over.starts[i] + over.d < self.rows[i][q]

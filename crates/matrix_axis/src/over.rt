@@ -7,6 +7,7 @@ ghost use Rattle.matrix_axis.specs.Ways.{Short};
 use stack::Stack;
 
 // On the lines 0 to last: the ways of each to the bound's start, its length, and the ways from its end to each.
+// Kept as arrays with the last line beside them: mending may need no memory, and thirteen lines are the most.
 #[derive(Drop)]
 pub struct Over {
     pub last: usize,
