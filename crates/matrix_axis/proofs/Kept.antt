@@ -1,19 +1,18 @@
 -- A table with the shortest lengths: what mending it needs, and that it has them again after one bound more.
-use Rattle.std.proofs.Common.{◌≡◌, ℕ, ◌+◌, ◌*◌, ◌/◌, ◌%◌, ◌<◌, ◌≤◌, List, length, get_or, take, drop, set, ℤ, pos, ◌+ℤ◌, sym, ap, ◌∙◌, subst, inl, inr, arith}
+use Rattle.std.proofs.Common.{◌≡◌, ℕ, ◌+◌, ◌<◌, List, length, get_or, take, drop, ℤ, ◌+ℤ◌, sym, ap, ◌∙◌, subst, arith}
 use Rattle.std.specs.Int.{int_min}
 use Rattle.std.proofs.lemmas.Int.{ints}
-use Rattle.std.proofs.lemmas.Bool.{cases_eq}
-use Rattle.std.proofs.lemmas.List.{take-append-drop, take_more, get_or-set_same, get_or-set_other}
+use Rattle.std.proofs.lemmas.List.{take-append-drop, take_more}
 use Rattle.std.proofs.ByRecursion.{has_append_left, has_get_or}
 use Rattle.axis.specs.declared.model.Bound.{Bound}
 use Rattle.axis.specs.Meaning.{Meaning, with_bound, lines}
 use Rattle.axis.specs.Asks.{Paired, Ordered, Named, AllWithin}
 use Rattle.axis.specs.Distance.{Table, base, mend, mended, distance, Open, Right}
 use Rattle.axis.proofs.Distances.{distance_right, right_near, mended_push, open_parts}
-use Rattle.matrix_axis.specs.Cells.{entry, cell, Same, Kept, Closed}
+use Rattle.matrix_axis.specs.Cells.{cell, Same, Kept, Closed}
 
-pub right_closed : (m : Meaning) (t : Table) (cells : List ℤ) → Right m t → Paired m.lows m.highs → Ordered m.lows m.highs → Same (lines m) cells t → Closed (lines m) (cell cells)
-right_closed m t cells r paired ordered s = record {
+pub right_closed : (m : Meaning) (t : Table) (rows : List (List ℤ)) → Right m t → Paired m.lows m.highs → Ordered m.lows m.highs → Same (lines m) rows t → Closed (lines m) (cell rows)
+right_closed m t rows r paired ordered s = record {
   round = λ i j k hi hj hk.
       let o = r.round i j k hi hj hk in
       omega (arith, ints, s i k (hi, hk), s i j (hi, hj), s j k (hj, hk));
@@ -23,7 +22,7 @@ right_closed m t cells r paired ordered s = record {
 }
 
 -- mending reads only the lines that are named
-pub same_mend : (n : ℕ) (before after : List ℤ) (t : Table) (b : Bound) → Named n b.p b.q → Same n before t → Same n after (mend (cell before) b) → Same n after (mend t b)
+pub same_mend : (n : ℕ) (before after : List (List ℤ)) (t : Table) (b : Bound) → Named n b.p b.q → Same n before t → Same n after (mend (cell before) b) → Same n after (mend t b)
 unfolding mend
 same_mend n before after t b h s e i j k =
     e i j k
@@ -31,7 +30,7 @@ same_mend n before after t b h s e i j k =
     ∙ ap (λ x. int_min (t i j) (x +ℤ (b.d +ℤ cell before b.q j))) (s i b.p (k.0, h.0))
     ∙ ap (λ x. int_min (t i j) (t i b.p +ℤ (b.d +ℤ x))) (s b.q j (h.1, k.1))
 
-pub kept_put : (m after : Meaning) (b : Bound) (old new : List ℤ) → after ≡ with_bound m b → Named (lines m) b.p b.q → Kept old m → Same (lines m) new (mend (cell old) b) → Kept new after
+pub kept_put : (m after : Meaning) (b : Bound) (old new : List (List ℤ)) → after ≡ with_bound m b → Named (lines m) b.p b.q → Kept old m → Same (lines m) new (mend (cell old) b) → Kept new after
 kept_put m after b old new e h k s =
     subst (Kept new) (sym e)
     (λ i j n. same_mend (lines m) old new (distance m) b h k s i j n ∙ ap (λ (t : Table). t i j) (sym (mended_push (base m.lows m.highs) m.bounds b)))
@@ -48,23 +47,12 @@ module _ (m : Meaning) (paired : Paired m.lows m.highs) (ordered : Ordered m.low
       (λ b h. subst (AllWithin (lines m)) (sym e) within b (has_append_left (take k m.bounds) (drop k m.bounds) b h))
       (open_parts (base m.lows m.highs) (take k m.bounds) (drop k m.bounds) (subst (λ bs. Open (record { lows = m.lows; highs = m.highs; bounds = bs })) (sym e) o)).0
 
-  pub oldest_closed : (cells : List ℤ) → Same (lines m) cells (distance oldest) → Closed (lines m) (cell cells)
-  oldest_closed cells s = right_closed oldest (distance oldest) cells oldest_right paired ordered s
+  pub oldest_closed : (rows : List (List ℤ)) → Same (lines m) rows (distance oldest) → Closed (lines m) (cell rows)
+  oldest_closed rows s = right_closed oldest (distance oldest) rows oldest_right paired ordered s
 
-  pub oldest_more : (d : Bound) (before after : List ℤ) → k < length m.bounds → Same (lines m) before (distance oldest) → Same (lines m) after (mend (cell before) (get_or m.bounds k d)) → Same (lines m) after (mended (base m.lows m.highs) (take (k + 1) m.bounds))
+  pub oldest_more : (d : Bound) (before after : List (List ℤ)) → k < length m.bounds → Same (lines m) before (distance oldest) → Same (lines m) after (mend (cell before) (get_or m.bounds k d)) → Same (lines m) after (mended (base m.lows m.highs) (take (k + 1) m.bounds))
   oldest_more d before after h s e i j n =
       let b = get_or m.bounds k d in
       same_mend (lines m) before after (distance oldest) b (within b (has_get_or m.bounds k d h)).0 s e i j n
       ∙ ap (λ (t : Table). t i j) (sym (mended_push (base m.lows m.highs) (take k m.bounds) b))
       ∙ ap (λ bs. mended (base m.lows m.highs) bs i j) (sym (take_more m.bounds k d h))
-
--- one cell more, row by row
-pub filled_cell : (n : ℕ) (t : Table) (cells : List ℤ) (k : ℕ) (x : ℤ) → n ≤ 12 → k < length cells → ((i j : ℕ) → Named n i j → i * 13 + j < k → cell cells i j ≡ t i j) → (Named n (k / 13) (k % 13) → x ≡ t (k / 13) (k % 13)) → (i j : ℕ) → Named n i j → i * 13 + j < k + 1 → cell (set cells k x) i j ≡ t i j
-filled_cell n t cells k x few lt below here i j h l = elim (cases_eq (i * 13 + j) k) [
-  | inl e ↦ (
-      let ei : i ≡ k / 13 = omega (arith, h.1) in
-      let ej : j ≡ k % 13 = omega (arith, h.1) in
-      let at : entry (set cells k x) k ≡ x = get_or-set_same cells k x (pos 0) lt in
-      ap (entry (set cells k x)) e ∙ at ∙ here (subst (λ u. u ≤ n) ei h.0, subst (λ u. u ≤ n) ej h.1) ∙ ap (λ u. t u (k % 13)) (sym ei) ∙ ap (t i) (sym ej))
-  | inr ne ↦ get_or-set_other cells k (i * 13 + j) x (pos 0) ne ∙ below i j h (omega (arith, ne))
-]

@@ -3,4 +3,3 @@ mod Bounds
 mod Kept
 mod Lines
 mod Mends
-mod Places

@@ -1,41 +1,36 @@
--- Worklists: one line more, and all lines from 0 on.
-use Rattle.std.proofs.Common.{◌≡◌, ℕ, ◌+◌, ◌<◌, ◌≤◌, ◌⊎◌, List, [], ◌∷◌, ◌++◌, length, ℤ, ◌+ℤ◌, ◌≤ℤ◌, sym, subst, inl, inr, arith, below_more}
-use Rattle.std.proofs.lemmas.Int.{ints}
+-- Worklists: the lines that are looked at so far.
+use Rattle.std.proofs.Common.{◌≡◌, ℕ, ◌+◌, ◌<◌, ◌≤◌, ◌⊎◌, List, [], ◌∷◌, ◌++◌, length, sym, subst, inl, inr, arith, below_more}
 use Rattle.std.specs.List.{ContainsAt}
 use Rattle.std.proofs.lemmas.List.{length_push}
 use Rattle.std.proofs.ByRecursion.{has_append_left, has_push, has_push_cases}
-use Rattle.matrix_axis.specs.Cells.{entry}
-use Rattle.matrix_axis.specs.Lists.{Noted, Offered, Listed}
+use Rattle.matrix_axis.specs.Lists.{Listed}
 
-pub noted_push : (before after : List ℕ) (r : ℕ) → after ≡ before ++ r ∷ [] → Noted before r after
-noted_push before after r e = subst (Noted before r) (sym e) (record {
-  stays = λ x h. has_append_left before (r ∷ []) x h;
-  comes = λ x h. has_push_cases before r x h;
-  listed = has_push before r;
-  few = omega (arith, length_push before r);
-})
-
--- the lines below r are listed
-pub record ListedBelow (r : ℕ) (ways : List ℤ) (d : ℤ) (known : List ℤ) (list : List ℕ) : Type 0 where
+-- every line below r is listed or is skipped
+pub record ListedBelow (r : ℕ) (Skipped : ℕ → Type 0) (list : List ℕ) : Type 0 where
   pub few : length list ≤ r
-  pub all : (x : ℕ) → x < r → ContainsAt list x ⊎ (entry known x ≤ℤ (entry ways x +ℤ d))
+  pub all : (x : ℕ) → x < r → ContainsAt list x ⊎ Skipped x
   pub within : (x : ℕ) → ContainsAt list x → x < r
 
-module _ (ways known : List ℤ) (d : ℤ) where
-  pub listed_none : ListedBelow 0 ways d known []
+module _ (Skipped : ℕ → Type 0) where
+  pub listed_none : ListedBelow 0 Skipped []
   listed_none = record { few = omega arith; all = λ x h. absurd (omega arith); within = λ x h. let z = h.1 in absurd (omega arith) }
 
-  listed_more : (r : ℕ) (before after : List ℕ) (way seen : ℤ) → ListedBelow r ways d known before → way ≡ entry ways r +ℤ d → seen ≡ entry known r → Offered before r way seen after → ListedBelow (r + 1) ways d known after
-  listed_more r before after way seen l e k o = record {
-    few = let z = o.few in let i = l.few in omega arith;
-    all = below_more _ r (λ x h. elim (l.all x h) [ inl y ↦ inl (o.stays x y) | inr y ↦ inr y ])
-        (elim o.noted [ inl y ↦ inl y | inr y ↦ inr (omega (arith, ints)) ]);
-    within = λ x h. elim (o.comes x h) [ inl y ↦ (let z = l.within x y in omega arith) | inr e ↦ omega arith ];
+  pub listed_skip : (r : ℕ) (list : List ℕ) → ListedBelow r Skipped list → Skipped r → ListedBelow (r + 1) Skipped list
+  listed_skip r list l s = record {
+    few = let i = l.few in omega arith;
+    all = below_more _ r l.all (inr s);
+    within = λ x h. let i = l.within x h in omega arith;
   }
 
-  -- one line more, and all once the last is listed
-  pub listed_next : (n r : ℕ) (before after : List ℕ) (way seen : ℤ) → ListedBelow r ways d known before → r < n + 1 → way ≡ entry ways r +ℤ d → seen ≡ entry known r → Offered before r way seen after
-      → ListedBelow (r + 1) ways d known after × (n + 1 ≤ r + 1 → Listed n ways d known after)
-  listed_next n r before after way seen l h e k o =
-      let m = listed_more r before after way seen l e k o in
-      (m, λ g. record { all = λ x i. m.all x (omega arith); within = λ x i. let z = m.within x i in omega arith })
+  pub listed_more : (r : ℕ) (before after : List ℕ) → ListedBelow r Skipped before → after ≡ before ++ r ∷ [] → ListedBelow (r + 1) Skipped after
+  listed_more r before after l e = subst (ListedBelow (r + 1) Skipped) (sym e) (record {
+    few = let i = l.few in omega (arith, length_push before r);
+    all = below_more _ r (λ x h. elim (l.all x h) [ inl y ↦ inl (has_append_left before (r ∷ []) x y) | inr y ↦ inr y ]) (inl (has_push before r));
+    within = λ x h. elim (has_push_cases before r x h) [ inl y ↦ (let i = l.within x y in omega arith) | inr q ↦ omega arith ];
+  })
+
+  pub listed_all : (n r : ℕ) (list : List ℕ) → ListedBelow r Skipped list → r ≡ n + 1 → Listed n Skipped list
+  listed_all n r list l e = record { all = λ x h. l.all x (omega arith); within = λ x h. let i = l.within x h in omega arith }
+
+pub listed_as : (n : ℕ) (P Q : ℕ → Type 0) (list : List ℕ) → Listed n P list → ((r : ℕ) → r ≤ n → P r → Q r) → Listed n Q list
+listed_as n P Q list l f = record { all = λ r h. elim (l.all r h) [ inl y ↦ inl y | inr y ↦ inr (f r h y) ]; within = l.within }

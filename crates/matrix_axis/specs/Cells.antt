@@ -1,5 +1,5 @@
 -- The table of a matrix axis: thirteen rows of thirteen lengths.
-use Rattle.std.specs.Prelude.{◌≡◌, ℕ, ◌+◌, ◌*◌, ◌≤◌, List, ℤ, pos, ◌+ℤ◌, ◌≤ℤ◌, slice_index_or}
+use Rattle.std.specs.Prelude.{◌≡◌, ℕ, ◌≤◌, List, [], ℤ, pos, ◌+ℤ◌, ◌≤ℤ◌, slice_index_or}
 use Rattle.axis.specs.Meaning.{Meaning, lines}
 use Rattle.axis.specs.Asks.{Named}
 use Rattle.ledger.specs.Lengths.{Near}
@@ -9,17 +9,20 @@ use Rattle.axis.specs.Distance.{Table, distance}
 abbrev pub entry : List ℤ → ℕ → ℤ
 entry xs r = slice_index_or xs r (pos 0)
 
+abbrev pub row_of : List (List ℤ) → ℕ → List ℤ
+row_of rows i = slice_index_or rows i []
+
 -- the length from line i to line j
-abbrev pub cell : List ℤ → Table
-cell cells i j = entry cells (i * 13 + j)
+abbrev pub cell : List (List ℤ) → Table
+cell rows i j = entry (row_of rows i) j
 
 -- for the lines 0 to n the table is t
-abbrev pub Same : ℕ → List ℤ → Table → Type 0
-Same n cells t = (i j : ℕ) → Named n i j → cell cells i j ≡ t i j
+abbrev pub Same : ℕ → List (List ℤ) → Table → Type 0
+Same n rows t = (i j : ℕ) → Named n i j → cell rows i j ≡ t i j
 
 -- the table has the shortest lengths
-abbrev pub Kept : List ℤ → Meaning → Type 0
-Kept cells m = Same (lines m) cells (distance m)
+abbrev pub Kept : List (List ℤ) → Meaning → Type 0
+Kept rows m = Same (lines m) rows (distance m)
 
 -- no way round is shorter, and every length is within the longest span
 pub record Closed (n : ℕ) (t : Table) : Type 0 where

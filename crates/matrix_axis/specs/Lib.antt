@@ -1,3 +1,4 @@
 pub mod Cells
 pub mod Lists
 pub mod Mending
+pub mod Ways

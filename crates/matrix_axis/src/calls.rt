@@ -10,7 +10,7 @@ ghost use Rattle.ledger.proofs.Open.{ledger_roomy, ledger_valid};
 use crate::MatrixAxis;
 use crate::table::Table;
 use axis::{Axis, AxisFault, Bound};
-use ledger::{Ledger, along};
+use ledger::Ledger;
 use std::alloc::{AllocError, Global};
 
 impl MatrixAxis {
@@ -22,31 +22,23 @@ impl MatrixAxis {
         Ok(MatrixAxis { ledger, table })
     }
 
-    // Is the way back too short for the bound?
-    fn closes_ring(&self, bound: Bound) -> bool
-        requires { Within (lines (means self.now.ledger)) bound }
-        ensures yes { result ≡ true → (bound.d +ℤ distance (means self.now.ledger) bound.q bound.p) <ℤ pos 0 }
-        ensures no { result ≡ false → pos 0 ≤ℤ (bound.d +ℤ distance (means self.now.ledger) bound.q bound.p) }
-    {
-        along(self.told(bound.q, bound.p), bound.d) < 0
-    }
-
-    // What the table tells of two lines.
+    // The shortest length, which the table has.
     fn told(&self, p: u8, q: u8) -> i16
         requires { Named (lines (means self.now.ledger)) p q }
         ensures value { result ≡ distance (means self.now.ledger) p q }
         ensures near { Near result }
         ensures tightest { Tightest (means self.now.ledger) p q result }
     {
-        self.length(p, q)
+        self.table.at(p as usize, q as usize)
     }
 
-    // The table's answer: the shortest length.
-    fn length(&self, p: u8, q: u8) -> i16
-        requires { Named (lines (means self.now.ledger)) p q }
-        ensures { result ≡ distance (means self.now.ledger) p q }
+    // Is the way back too short for the bound?
+    fn closes_ring(&self, bound: Bound) -> bool
+        requires { Within (lines (means self.now.ledger)) bound }
+        ensures yes { result ≡ true → (bound.d +ℤ distance (means self.now.ledger) bound.q bound.p) <ℤ pos 0 }
+        ensures no { result ≡ false → pos 0 ≤ℤ (bound.d +ℤ distance (means self.now.ledger) bound.q bound.p) }
     {
-        self.table.at(p as usize, q as usize)
+        self.told(bound.q, bound.p) + bound.d < 0
     }
 }
 

@@ -12,14 +12,12 @@ mod calls;
 mod mending;
 mod over;
 mod rebuilding;
-mod sums;
 mod table;
-mod worklists;
 
 #[derive(Drop)]
 pub struct MatrixAxis {
     ledger: Ledger,
     table: Table,
     ghost open: { Open (means ledger) },
-    ghost kept: { Kept table.cells (means ledger) },
+    ghost kept: { Kept table.rows (means ledger) },
 }

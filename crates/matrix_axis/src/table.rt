@@ -1,49 +1,44 @@
-// The table of lengths, row by row.
-ghost use Rattle.std.specs.Prelude.{◌≡◌, ℕ, ◌<◌, ◌≤◌, length, pos};
-ghost use Rattle.matrix_axis.specs.Cells.{cell, entry};
+// The table of lengths.
+ghost use Rattle.std.specs.Prelude.{◌≡◌, ℕ, ◌<◌, ◌≤◌, pos, replicate};
+ghost use Rattle.matrix_axis.specs.Cells.{cell, entry, row_of};
 
-// The length from line i to line j stands at i * 13 + j.
+use std::array;
+
+// Row i has the lengths from line i to each line.
 #[derive(Drop)]
 pub struct Table {
-    pub cells: [i16; 169],
-    ghost full: { length cells ≡ 169 },
+    pub rows: [[i16; 13]; 13],
 }
 
 impl Table {
     pub fn new() -> Table
-        ensures { (k : ℕ) → k < 169 → entry result.cells k ≡ pos 0 }
+        ensures { result.rows ≡ replicate 13 (replicate 13 (pos 0)) }
     {
-        Table { cells: [0; 169] }
+        Table {
+            rows: [[0; 13]; 13],
+        }
     }
 
     pub fn at(&self, i: usize, j: usize) -> i16
         requires { (i < 13) × (j < 13) }
-        ensures { result ≡ cell self.now.cells i j }
+        ensures { result ≡ cell self.now.rows i j }
     {
-        self.cells[i * 13 + j]
+        self.rows[i][j]
     }
 
-    // The ways from line i to each line.
+    // The lengths from line i to each line.
     pub fn row(&self, i: usize) -> [i16; 13]
         requires { i < 13 }
-        ensures { (j : ℕ) → j < 13 → entry result j ≡ cell self.now.cells i j }
+        ensures { result ≡ row_of self.now.rows i }
     {
-        let mut ways = [0; 13];
-        for j in 0..13 {
-            ways[j] = self.at(i, j);
-        }
-        ways
+        self.rows[i]
     }
 
-    // The ways from each line to line j.
+    // The lengths from each line to line j.
     pub fn column(&self, j: usize) -> [i16; 13]
         requires { j < 13 }
-        ensures { (i : ℕ) → i < 13 → entry result i ≡ cell self.now.cells i j }
+        ensures { (i : ℕ) → i < 13 → entry result i ≡ cell self.now.rows i j }
     {
-        let mut ways = [0; 13];
-        for i in 0..13 {
-            ways[i] = self.at(i, j);
-        }
-        ways
+        array::from_fn(|i| self.rows[i][j])
     }
 }

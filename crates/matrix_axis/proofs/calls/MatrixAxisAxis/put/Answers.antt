@@ -7,23 +7,18 @@ use Rattle.matrix_axis.proofs.Axes.{axis_closed}
 use Rattle.matrix_axis.proofs.Kept.{kept_put}
 use Rattle.matrix_axis.proofs.calls.MatrixAxisAxis.put.Goals as goal
 
-pub closes_ring-requires : goal.closes_ring-requires
-closes_ring-requires c = let first = c.in_ok-admits.ensures in (first.0, first.1.0)
-
 pub returns-then-closes_ring : goal.returns-then-closes_ring
 returns-then-closes_ring c =
     let a = c.args.self.now in
     (put_refused a.ledger a.«open» c.args.bound c.in_ok-admits.ensures (c.closes_ring.ensures.yes c.if-closes_ring.true), refl)
 
-pub mend-requires : goal.mend-requires
-mend-requires c =
+pub mend-requires-clause-within : goal.mend-requires-clause-within
+mend-requires-clause-within c =
     let first = c.in_ok-admits.ensures in
-    let n = sym c.lines.ensures.value in
-    record {
-      few = c.lines.ensures.few;
-      within = subst (λ n. Within n c.args.bound) n (first.0, first.1.0);
-      closed = subst (λ n. Closed n (cell c.args.self.now.table.cells)) n (axis_closed c.args.self.now);
-    }
+    subst (λ n. Within n c.args.bound) (sym c.lines.ensures.value) (first.0, first.1.0)
+
+pub mend-requires-clause-closed : goal.mend-requires-clause-closed
+mend-requires-clause-closed c = subst (λ n. Closed n (cell c.args.self.now.table.rows)) (sym c.lines.ensures.value) (axis_closed c.args.self.now)
 
 pub invariant_of-self-2 : goal.invariant_of-self-2
 invariant_of-self-2 c =
@@ -31,7 +26,7 @@ invariant_of-self-2 c =
     let first = c.in_ok-admits.ensures in
     record {
       «open» = open_put a.ledger a.«open» c.args.bound first (c.closes_ring.ensures.no c.if-closes_ring.false) _ c.push.ensures;
-      kept = kept_put _ _ c.args.bound _ _ c.push.ensures first.0 a.kept (subst (λ n. Same n c.mend.new.self.cells (mend (cell a.table.cells) c.args.bound)) c.lines.ensures.value c.mend.ensures);
+      kept = kept_put _ _ c.args.bound _ _ c.push.ensures first.0 a.kept (subst (λ n. Same n c.mend.new.self.rows (mend (cell a.table.rows) c.args.bound)) c.lines.ensures.value c.mend.ensures);
     }
 
 pub returns : goal.returns

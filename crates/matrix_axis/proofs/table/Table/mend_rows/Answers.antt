@@ -1,23 +1,25 @@
-use Rattle.std.proofs.Common.{◌≡◌, [], take, sym, ap, subst}
-use Rattle.std.proofs.ByRecursion.{has_push}
-use Rattle.std.specs.List.{ContainsAt}
+use Rattle.std.proofs.Common.{◌≡◌, [], List, take, ap, subst, arith, rules, length-set, ℤ}
+use Rattle.std.proofs.ByRecursion.{has_get_or}
 use Rattle.stack.specs.Stacks.{contents, memory}
-use Rattle.matrix_axis.proofs.Mends.{Mending, mending_none, mending_more, mending_all}
 use Rattle.matrix_axis.specs.Cells.{cell}
+use Rattle.matrix_axis.proofs.Mends.{Mending, mending_line, mending_more, mending_all}
 use Rattle.matrix_axis.proofs.table.Table.mend_rows.Goals as goal
 
-pub loop-i-init : goal.loop-i-init
-loop-i-init c = mending_none _ _ _ _ c.requires.few _ c.requires.pending
+pub bounds-self-i : goal.bounds-self-i
+bounds-self-i c = let line = mending_line _ c.args.columns.now _ _ _ _ _ c.loop-i.invariant c.in-Ok.ensures.after.items in omega arith
 
 pub mend_row-requires : goal.mend_row-requires
-mend_row-requires c =
-    let listed = c.loop-i.invariant.within c.in-Ok.i (subst (λ xs. ContainsAt xs c.in-Ok.i) (sym c.in-Ok.ensures.after.items) (has_push _ _)) in
-    record { within = (listed, c.requires.few); listed = c.requires.pending.column_within; short = c.requires.short }
+mend_row-requires c = record {
+  line = mending_line _ c.args.columns.now _ _ _ _ _ c.loop-i.invariant c.in-Ok.ensures.after.items;
+  columns = λ k h. c.requires.column_within _ (has_get_or c.args.columns.now k 0 h);
+}
 
 pub loop-i-preserved : goal.loop-i-preserved
-loop-i-preserved c = mending_more _ _ _ _ c.requires.few _ _ _ _ _ _ c.requires.pending c.in-Ok.ensures.after.items c.loop-i.invariant c.mend_row.ensures
+loop-i-preserved c =
+    let line = mending_line _ c.args.columns.now _ _ _ _ _ c.loop-i.invariant c.in-Ok.ensures.after.items in
+    mending_more _ _ _ _ _ _ _ _ _ _ c.requires c.in-Ok.ensures.after.items c.loop-i.invariant (omega (arith, length-set {A = List ℤ}, c.mend_row.array_long)) c.mend_row.ensures (search rules)
 
 pub returns : goal.returns
 returns c =
     let none : contents c.loop-i.rows ≡ [] = ap (λ n. take n (memory c.loop-i.rows)) c.in_default.ensures.after.0 in
-    mending_all _ _ c.args.columns.now _ c.requires.few _ (subst (λ rows. Mending c.args.n (cell c.args.self.now.cells) c.args.over.now rows c.loop-i.self.cells) none c.loop-i.invariant)
+    mending_all _ c.args.columns.now _ _ (subst (λ rows. Mending (cell c.args.self.now.rows) c.args.over.now rows c.loop-i.self.rows) none c.loop-i.invariant)

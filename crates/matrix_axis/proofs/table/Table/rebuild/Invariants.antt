@@ -6,4 +6,4 @@ use Rattle.matrix_axis.specs.Cells.{Same}
 use Rattle.matrix_axis.proofs.table.Table.rebuild.Given as goal
 
 abbrev pub invariant-loop-bound : goal.invariant-loop-bound
-invariant-loop-bound l = Same (lines (means l.ledger)) l.self.cells (mended (base (means l.ledger).lows (means l.ledger).highs) (take l.bound-index (means l.ledger).bounds))
+invariant-loop-bound l = Same (lines (means l.ledger)) l.self.rows (mended (base (means l.ledger).lows (means l.ledger).highs) (take l.bound-index (means l.ledger).bounds))
