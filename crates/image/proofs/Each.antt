@@ -1,31 +1,22 @@
 -- The bytes of each of a list, put on a page one after the other.
-use Rattle.std.proofs.Common.{◌≡◌, ℕ, ◌+◌, ◌<◌, ◌≤◌, List, [], ◌++◌, length, get_or, drop, sym, refl, ap, ◌∙◌, append_assoc, append-nil}
+use Rattle.std.proofs.Common.{◌≡◌, ℕ, ◌+◌, ◌<◌, ◌≤◌, List, length, get_or, drop, sym, ap, ◌∙◌}
 use Rattle.std.proofs.lemmas.List.{at_drop_more, at_drop_all}
 use Rattle.image.specs.Bytes.{each}
-use Rattle.page.specs.Pages.{Put-on, Remains, Ended, comes_to}
+use Rattle.page.specs.Pages.{put}
 use Rattle.page.specs.declared.Page.{Page}
-
--- whatever comes after, those past the first i of the list are still to be put
-abbrev pub EachLeft : {A : Type 0} → (A → List ℕ) → Page → Page → List A → ℕ → Type 0
-EachLeft f p q xs i = (rest : List ℕ) → Remains p (each f xs ++ rest) q (each f (drop i xs) ++ rest)
+use Rattle.page.proofs.Put.{put_append}
 
 module _ {A : Type 0} (f : A → List ℕ) where
-  pub each_none : (p : Page) (xs : List A) → EachLeft f p p xs 0
-  each_none p xs rest = record { end = refl; same = refl }
+  -- those past the first i of the list are still to be put on p, for the page to be done
+  abbrev pub Left : Page → Page → List A → ℕ → Type 0
+  Left done p xs i = done ≡ put p (each f (drop i xs))
 
-  pub each_more : (p q r : Page) (xs : List A) (i : ℕ) (d : A) → i < length xs → EachLeft f p q xs i → Put-on q (f (get_or xs i d)) r → EachLeft f p r xs (i + 1)
-  each_more p q r xs i d h a b rest =
-      let F : List A → List ℕ × ℕ = λ ys. comes_to q (each f ys ++ rest) in
-      let split : (f (get_or xs i d) ++ each f (drop (i + 1) xs)) ++ rest ≡ f (get_or xs i d) ++ (each f (drop (i + 1) xs) ++ rest) = append_assoc (f (get_or xs i d)) _ rest in
-      record {
-        end = (a rest).end ∙ at_drop_more F xs i d h ∙ ap (comes_to q) split ∙ b.end _;
-        same = b.same ∙ (a rest).same;
-      }
+  pub each_more : (done p q : Page) (xs : List A) (i : ℕ) (x : A) → i < length xs → Left done p xs i → x ≡ get_or xs i x → q ≡ put p (f x) → Left done q xs (i + 1)
+  each_more done p q xs i x h a is b =
+      let rest = each f (drop (i + 1) xs) in
+      let next = a ∙ at_drop_more (λ ys. put p (each f ys)) xs i x h ∙ put_append p (f (get_or xs i x)) rest in
+      next ∙ ap (λ (y : A). put (put p (f y)) rest) (sym is) ∙ ap (λ (page : Page). put page rest) (sym b)
 
-  pub each_all : (p q : Page) (xs : List A) (i : ℕ) → length xs ≤ i → EachLeft f p q xs i → Put-on p (each f xs) q
-  each_all p q xs i h a =
-      let F : List ℕ → List A → List ℕ × ℕ = λ rest ys. comes_to q (each f ys ++ rest) in
-      record { end = λ rest. (a rest).end ∙ at_drop_all (F rest) xs i h; same = (a []).same }
-
-pub at_end : (p q : Page) (bytes : List ℕ) → Put-on p bytes q → Ended p bytes q
-at_end p q bytes a = record { end = ap (comes_to p) (sym (append-nil bytes)) ∙ a.end []; same = a.same }
+  pub each_all : (done p : Page) (xs : List A) (i : ℕ) → length xs ≤ i → Left done p xs i → p ≡ done
+  unfolding put
+  each_all done p xs i h a = sym (a ∙ at_drop_all (λ ys. put p (each f ys)) xs i h)

@@ -1,7 +1,8 @@
 // A sheet as bytes, in a lent buffer.
-#![tactic(auto)]
+#![tactic(auto, using(page::proofs::Put::put_append), unfolding(page::specs::Pages::put))]
 
 mod fields;
+mod parts;
 mod writer;
 
 pub use writer::write;

@@ -1,18 +1,27 @@
 -- A page that all bytes were put on.
-use Rattle.std.proofs.Common.{◌≡◌, ℕ, ◌+◌, ◌≤◌, min, List, [], ◌++◌, length, drop, ap, ◌∙◌, arith}
-use Rattle.page.specs.Pages.{Ended, comes_to, laid, most}
+use Rattle.std.proofs.Common.{◌≡◌, ℕ, ◌+◌, ◌≤◌, min, List, [], ◌∷◌, ◌++◌, length, drop, set, sym, refl, ap, ◌∙◌, append_assoc, arith}
+use Rattle.std.proofs.lemmas.List.{set_at, length_push}
+use Rattle.page.specs.Pages.{put, put_one, most}
 use Rattle.page.specs.declared.Page.{Page}
-use Rattle.page.proofs.Laid.{laid_none, laid_whole}
 
-pub counted_whole : (p q : Page) (more : List ℕ) → p.bytes.now ≡ [] → p.len ≡ 0 → Ended p more q → q.len ≡ min (length more) most
-unfolding comes_to
-counted_whole p q more none start a =
-    let e : (q.bytes.now, q.len) ≡ laid [] 0 more = cc in
-    let count : q.len ≡ min (0 + length more) most = ap (λ (end : List ℕ × ℕ). end.1) (e ∙ laid_none 0 more (omega arith)) in
-    omega arith
+-- the lender has afterwards what the page held last
+pub put_loan : (p : Page) (more : List ℕ) → (put p more).bytes.ghost_name ≡ p.bytes.ghost_name
+unfolding put put_one
+put_loan p [] = refl
+put_loan p (b ∷ more) = put_loan (put_one p b) more
 
-pub filled_whole : (p q : Page) (bytes more : List ℕ) → p.bytes.now ≡ bytes → p.len ≡ 0 → Ended p more q → length more ≤ length bytes → length bytes ≤ most → q.bytes.now ≡ more ++ drop (length more) bytes
-unfolding comes_to
-filled_whole p q bytes more lent start a h k =
-    let e : (q.bytes.now, q.len) ≡ laid bytes 0 more = cc in
-    ap (λ (end : List ℕ × ℕ). end.0) (e ∙ laid_whole bytes more h k)
+pub put_len : (p : Page) (more : List ℕ) → p.len ≤ most → (put p more).len ≡ min (p.len + length more) most
+unfolding put put_one
+put_len p [] h = omega arith
+put_len p (b ∷ more) h = let rest = put_len (put_one p b) more (omega arith) in omega arith
+
+-- on lent bytes enough each takes the place of one
+pub put_bytes : (p : Page) (front back more : List ℕ) → p.bytes.now ≡ front ++ back → length front ≡ p.len → length more ≤ length back → p.len + length back ≤ most → (put p more).bytes.now ≡ front ++ (more ++ drop (length more) back)
+unfolding put put_one
+put_bytes p front back [] a e h k = a
+put_bytes p front [] (b ∷ more) a e h k = absurd (omega arith)
+put_bytes p front (y ∷ back) (b ∷ more) a e h k =
+    let placed : set (front ++ y ∷ back) p.len b ≡ (front ++ b ∷ []) ++ back = set_at front y back b p.len e ∙ sym (append_assoc front (b ∷ []) back) in
+    let longer : length (front ++ b ∷ []) ≡ length front + 1 = length_push front b in
+    let rest = put_bytes (put_one p b) (front ++ b ∷ []) back more (ap (λ (bytes : List ℕ). set bytes p.len b) a ∙ placed) (omega arith) (omega arith) (omega arith) in
+    rest ∙ append_assoc front (b ∷ []) _

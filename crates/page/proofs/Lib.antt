@@ -1,2 +1,3 @@
 pub mod Ended
-pub mod Laid
+pub mod Put
+pub mod Reasons
