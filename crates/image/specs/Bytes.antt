@@ -1,8 +1,7 @@
 -- The bytes of an image, told from the journal.
 use Rattle.std.specs.Prelude.{ℕ, ◌-◌, ◌/◌, ◌%◌, List, [], ◌∷◌, ◌++◌, length, ℤ, pos, negsuc, Some, None, Option}
-use Rattle.boxes.specs.declared.model.Direction.{Direction}
-use Rattle.boxes.specs.declared.model.Direction.TheVariants.{Time, Platform}
 use Rattle.boxes.specs.declared.model.Entry.{Entry}
+use Rattle.boxes.specs.Letters.{letter_of}
 use Rattle.journal.specs.declared.model.Stay.{Stay}
 use Rattle.journal.specs.declared.model.Window.{Window}
 use Rattle.journal.specs.Journal.{Journal}
@@ -27,13 +26,9 @@ stay_fields s = two s.circuit ++ (two s.lead ++ (two s.dwell ++ (two s.metres ++
 abbrev pub stay_bytes : Stay → List ℕ
 stay_bytes s = length (stay_fields s) ∷ stay_fields s
 
--- T in time, P along the platform
-abbrev pub letter_byte : Direction → ℕ
-letter_byte Time = 84
-letter_byte Platform = 80
-
+-- the letter T or P, the two lines and the number
 abbrev pub entry_bytes : Entry → List ℕ
-entry_bytes e = letter_byte e.direction ∷ (e.bound.p ∷ (e.bound.q ∷ two (complement e.bound.d)))
+entry_bytes e = letter_of e.direction ∷ (e.bound.p ∷ (e.bound.q ∷ two (complement e.bound.d)))
 
 -- the bytes of each, one after the other
 abbrev pub each : {A : Type 0} → (A → List ℕ) → List A → List ℕ

@@ -1,9 +1,9 @@
-// What has a fixed place in an image, as bytes: a number, a window, a stay, an entry.
-ghost use Rattle.std.specs.Prelude.{◌≡◌, ℕ, List, length};
-ghost use Rattle.image.specs.Bytes.{each, entry_bytes, letter_byte, stay_bytes, stay_fields, two, window_bytes};
+// What has a fixed place in an image, as bytes: a number, a window, a stay, an entry, and lists of them.
+ghost use Rattle.std.specs.Prelude.{◌≡◌, ℕ, ◌<◌, List, ◌∷◌, length};
+ghost use Rattle.image.specs.Bytes.{each, entry_bytes, stay_bytes, stay_fields, two, window_bytes};
 ghost use Rattle.page.specs.Pages.{put};
 
-use boxes::{Direction, Entry};
+use boxes::Entry;
 use journal::{Stay, Window};
 use page::Page;
 
@@ -59,26 +59,19 @@ impl Field for Entry {
 
     // The number of the bound is written in two's complement.
     fn put_on(&self, page: &mut Page<'_>) {
-        page.byte(letter_of(self.direction));
+        page.byte(char::from(self.direction) as u8);
         page.byte(self.bound.p);
         page.byte(self.bound.q);
         self.bound.d.cast_unsigned().put_on(page);
     }
 }
 
-fn letter_of(direction: Direction) -> u8
-    ensures { result ≡ letter_byte direction }
+// Their number in one byte, and each of them, one after the other.
+pub fn put_list<T: Field>(page: &mut Page<'_>, items: &[T])
+    requires { length items.now < 256 }
+    ensures { page.new ≡ put page.old (length items.now ∷ each T.bytes items.now) }
 {
-    match direction {
-        Direction::Time => b'T',
-        Direction::Platform => b'P',
-    }
-}
-
-// Each of them, one after the other.
-pub fn put_each<T: Field>(page: &mut Page<'_>, items: &[T])
-    ensures { page.new ≡ put page.old (each T.bytes items.now) }
-{
+    page.byte(items.len() as u8);
     for item in items {
         item.put_on(page);
     }

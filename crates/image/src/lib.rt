@@ -2,7 +2,6 @@
 #![tactic(auto, using(page::proofs::Put::put_append), unfolding(page::specs::Pages::put))]
 
 mod fields;
-mod parts;
 mod writer;
 
 pub use writer::write;

@@ -2,11 +2,13 @@
 ghost use Rattle.std.specs.Prelude.{◌≡◌, length};
 ghost use Rattle.image.specs.Bytes.{body_bytes, image_bytes};
 ghost use Rattle.image.specs.Writes.{Written};
+ghost use Rattle.page.specs.Pages.{put};
 ghost use Rattle.sheet.specs.Standing.{journal_of};
 
-use crate::parts::{put_body, put_image};
+use crate::fields::{Field, put_list};
 use axis::Axis;
 use faults::{Cause, ImageFault};
+use page::Page;
 use sheet::Sheet;
 
 // The image fills the front of the buffer, and the answer is its length.
@@ -29,4 +31,23 @@ fn measure<T: Axis + Drop, P: Axis + Drop>(sheet: &Sheet<T, P>) -> u16
     ensures { result ≡ length (body_bytes (journal_of sheet.now)) }
 {
     page::count(&|page| put_body(page, sheet)) as u16
+}
+
+fn put_image<T: Axis + Drop, P: Axis + Drop>(page: &mut Page<'_>, body: u16, sheet: &Sheet<T, P>)
+    requires { body ≡ length (body_bytes (journal_of sheet.now)) }
+    ensures { page.new ≡ put page.old (image_bytes (journal_of sheet.now)) }
+{
+    body.put_on(page);
+    put_body(page, sheet);
+}
+
+// All that the length counts: the version, the extents, the stays and the entries.
+fn put_body<T: Axis + Drop, P: Axis + Drop>(page: &mut Page<'_>, sheet: &Sheet<T, P>)
+    ensures { page.new ≡ put page.old (body_bytes (journal_of sheet.now)) }
+{
+    page.byte(1);
+    sheet.span().put_on(page);
+    sheet.metres().put_on(page);
+    put_list(page, sheet.stays());
+    put_list(page, sheet.entries());
 }

@@ -5,8 +5,12 @@ use Rattle.std.specs.Fn.{Shared}
 use Rattle.page.specs.declared.Page.{Page}
 use Rattle.page.specs.Pages.{put}
 
+-- what is known of the calls of an F, which takes a page and answers nothing
+abbrev pub Calls : Type 0 → Type 1
+Calls F = Shared F (MutBor Page × Unit {0}) (Unit {0} × (MutBor Page × Unit {0}))
+
 -- a call of f puts these bytes on the page that it is given, whatever the page holds
-abbrev pub Puts : {F : Type 0} → Shared F (MutBor Page × Unit {0}) (Unit {0} × (MutBor Page × Unit {0})) → F → List ℕ → Type 0
+abbrev pub Puts : {F : Type 0} → Calls F → F → List ℕ → Type 0
 Puts calls f told = (p q : MutBor Page) → calls.post f (p, tt) (tt, (q, tt)) → q.now ≡ put p.now told
 
 -- what was told stands at the front, and past it each byte is as it was
