@@ -1,6 +1,6 @@
 // What has a fixed place in an image, as bytes: a number, a window, a stay, an entry, and lists of them.
-ghost use Rattle.std.specs.Prelude.{◌≡◌, ℕ, ◌<◌, List, ◌∷◌, length};
-ghost use Rattle.image.specs.Bytes.{each, entry_bytes, stay_bytes, stay_fields, two, window_bytes};
+ghost use Rattle.std.specs.Prelude.{◌≡◌, ℕ, ◌<◌, List, ◌∷◌, length, flat_map};
+ghost use Rattle.image.specs.Bytes.{entry_bytes, stay_bytes, stay_fields, two, window_bytes};
 ghost use Rattle.page.specs.Pages.{put};
 
 use boxes::Entry;
@@ -69,7 +69,7 @@ impl Field for Entry {
 // Their number in one byte, and each of them, one after the other.
 pub fn put_list<T: Field>(page: &mut Page<'_>, items: &[T])
     requires { length items.now < 256 }
-    ensures { page.new ≡ put page.old (length items.now ∷ each T.bytes items.now) }
+    ensures { page.new ≡ put page.old (length items.now ∷ flat_map T.bytes items.now) }
 {
     page.byte(items.len() as u8);
     for item in items {

@@ -1,3 +1,4 @@
+pub mod Each
 pub mod Ended
 pub mod Put
 pub mod Reasons
