@@ -1,4 +1,2 @@
-pub mod Each
-pub mod Ended
+pub mod Fills
 pub mod Put
-pub mod Reasons

@@ -1,6 +1,6 @@
 use Rattle.std.proofs.Common.{◌≡◌, ◌+◌, min, length, arith}
 use Rattle.page.specs.Pages.{most}
-use Rattle.page.proofs.Ended.{put_len}
+use Rattle.page.proofs.Fills.{put_len}
 use Rattle.page.proofs.count.Goals as goal
 
 pub returns : goal.returns

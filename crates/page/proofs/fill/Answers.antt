@@ -1,6 +1,6 @@
 use Rattle.std.proofs.Common.{◌≡◌, ◌≤◌, [], ◌++◌, length, drop, arith, rules}
 use Rattle.page.specs.Pages.{most}
-use Rattle.page.proofs.Ended.{put_loan, put_bytes}
+use Rattle.page.proofs.Fills.{put_loan, put_bytes}
 use Rattle.page.proofs.fill.Goals as goal
 
 pub returns : goal.returns

@@ -1,6 +1,6 @@
 use Rattle.std.proofs.Common.{refl, flat_map}
 use Rattle.page.specs.Pages.{put}
-use Rattle.page.proofs.Each.{each_more, each_all}
+use Rattle.page.proofs.Put.{each_more, each_all}
 use Rattle.image.proofs.fields.put_list.Goals as goal
 
 pub loop-item-preserved : goal.loop-item-preserved

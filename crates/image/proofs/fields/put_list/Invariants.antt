@@ -1,6 +1,6 @@
 use Rattle.std.proofs.Common.{flat_map}
 use Rattle.page.specs.Pages.{put}
-use Rattle.page.proofs.Each.{Left}
+use Rattle.page.proofs.Put.{Left}
 use Rattle.image.proofs.fields.put_list.Given as goal
 
 abbrev pub invariant-loop-item : goal.invariant-loop-item

@@ -1,5 +1,5 @@
 use Rattle.std.proofs.Common.{rules}
-use Rattle.page.proofs.Reasons.{fills_or}
+use Rattle.page.proofs.Fills.{fills_or}
 use Rattle.image.specs.Bytes.{image_bytes}
 use Rattle.sheet.specs.Standing.{journal_of}
 use Rattle.image.proofs.writer.write.Goals as goal

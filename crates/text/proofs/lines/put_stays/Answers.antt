@@ -1,5 +1,5 @@
 use Rattle.std.proofs.Common.{◌+◌, refl, arith}
-use Rattle.page.proofs.Each.{each_more, each_all}
+use Rattle.page.proofs.Put.{each_more, each_all}
 use Rattle.text.specs.Texts.{stay_line, stay_lines}
 use Rattle.text.proofs.lines.put_stays.Goals as goal
 

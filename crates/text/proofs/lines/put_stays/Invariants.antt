@@ -1,6 +1,6 @@
 use Rattle.std.proofs.Common.{◌+◌}
 use Rattle.page.specs.Pages.{put}
-use Rattle.page.proofs.Each.{Left}
+use Rattle.page.proofs.Put.{Left}
 use Rattle.text.specs.Texts.{stay_lines}
 use Rattle.text.proofs.lines.put_stays.Given as goal
 

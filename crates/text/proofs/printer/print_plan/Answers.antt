@@ -1,5 +1,5 @@
 use Rattle.std.proofs.Common.{rules}
-use Rattle.page.proofs.Reasons.{fills_or}
+use Rattle.page.proofs.Fills.{fills_or}
 use Rattle.text.specs.Texts.{plan_text}
 use Rattle.text.proofs.printer.print_plan.Goals as goal
 
