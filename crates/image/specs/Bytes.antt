@@ -1,8 +1,7 @@
 -- The bytes of an image, told from the journal.
-use Rattle.std.specs.Prelude.{ℕ, ◌-◌, ◌/◌, ◌%◌, List, [], ◌∷◌, ◌++◌, length, ℤ, pos, negsuc, Some, None, Option}
-use Rattle.boxes.specs.declared.model.Direction.{Direction}
-use Rattle.boxes.specs.declared.model.Direction.TheVariants.{Time, Platform}
+use Rattle.std.specs.Prelude.{ℕ, ◌-◌, ◌/◌, ◌%◌, List, [], ◌∷◌, ◌++◌, length, flat_map, ℤ, pos, negsuc, Some, None, Option}
 use Rattle.boxes.specs.declared.model.Entry.{Entry}
+use Rattle.boxes.specs.Letters.{letter_of}
 use Rattle.journal.specs.declared.model.Stay.{Stay}
 use Rattle.journal.specs.declared.model.Window.{Window}
 use Rattle.journal.specs.Journal.{Journal}
@@ -27,25 +26,17 @@ stay_fields s = two s.circuit ++ (two s.lead ++ (two s.dwell ++ (two s.metres ++
 abbrev pub stay_bytes : Stay → List ℕ
 stay_bytes s = length (stay_fields s) ∷ stay_fields s
 
--- T in time, P along the platform
-abbrev pub letter_byte : Direction → ℕ
-letter_byte Time = 84
-letter_byte Platform = 80
-
+-- the letter T or P, the two lines and the number
 abbrev pub entry_bytes : Entry → List ℕ
-entry_bytes e = letter_byte e.direction ∷ (e.bound.p ∷ (e.bound.q ∷ two (complement e.bound.d)))
+entry_bytes e = letter_of e.direction ∷ (e.bound.p ∷ (e.bound.q ∷ two (complement e.bound.d)))
 
--- the bytes of each, one after the other
-abbrev pub each : {A : Type 0} → (A → List ℕ) → List A → List ℕ
-each f [] = []
-each f (x ∷ xs) = f x ++ each f xs
-
+-- how many stays, and each
 abbrev pub stays_bytes : List Stay → List ℕ
-stays_bytes stays = length stays ∷ each stay_bytes stays
+stays_bytes stays = length stays ∷ flat_map stay_bytes stays
 
 -- entries stand oldest first
 abbrev pub entries_bytes : List Entry → List ℕ
-entries_bytes entries = length entries ∷ each entry_bytes entries
+entries_bytes entries = length entries ∷ flat_map entry_bytes entries
 
 -- all that the length counts: the version, span and platform, the stays and the entries
 abbrev pub body_bytes : Journal → List ℕ

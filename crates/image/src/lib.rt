@@ -1,6 +1,7 @@
 // A sheet as bytes, in a lent buffer.
-#![tactic(auto)]
+#![tactic(auto, using(page::proofs::Put::put_append), unfolding(page::specs::Pages::put))]
 
+mod body;
 mod fields;
 mod writer;
 

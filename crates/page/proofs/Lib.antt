@@ -1,2 +1,2 @@
-pub mod Ended
-pub mod Laid
+pub mod Fills
+pub mod Put

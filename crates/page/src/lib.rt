@@ -1,10 +1,12 @@
 // A page on lent bytes, filled from the front.
-#![tactic(auto)]
+#![tactic(auto, unfolding(crate::specs::Pages::put))]
 
-ghost use Rattle.std.specs.Prelude.{◌≡◌, [], ◌∷◌, slice_set};
-ghost use Rattle.page.specs.Pages.{loan, Put-on};
+ghost use Rattle.std.specs.Prelude.{◌≡◌, ℕ, min, List, length};
+ghost use Rattle.page.specs.Fills.{Fills, Puts};
+ghost use Rattle.page.specs.Pages.{most, put, put_one};
 
 // What finds no place on the page is counted all the same, so a page on no bytes tells how many there would be.
+// Kept as a slice and a count: the bytes are lent, and the count goes past their end.
 #[derive(Drop)]
 pub struct Page<'a> {
     bytes: &'a mut [u8],
@@ -15,7 +17,7 @@ impl<'a> Page<'a> {
     pub fn new(bytes: &'a mut [u8]) -> Page<'a>
         ensures bytes { result.bytes.now ≡ bytes.old }
         ensures len { result.len ≡ 0 }
-        ensures same { loan result ≡ bytes.entry.ghost_name }
+        ensures same { result.bytes.ghost_name ≡ bytes.entry.ghost_name }
     {
         Page { bytes, len: 0 }
     }
@@ -28,21 +30,45 @@ impl<'a> Page<'a> {
     }
 
     // A count past the largest usize stays there: no buffer is that long.
+    #[tactic(auto, unfolding(crate::specs::Pages::put_one))]
     pub fn byte(&mut self, b: u8)
-        ensures { Put-on self.old (b ∷ []) self.new }
-    {
-        self.set(b);
-        self.len = self.len.saturating_add(1);
-    }
-
-    // Past the end nothing is written.
-    fn set(&mut self, b: u8)
-        ensures bytes { self.new.bytes.now ≡ slice_set self.old.bytes.now self.old.len b }
-        ensures len { self.new.len ≡ self.old.len }
-        ensures same { loan self.new ≡ loan self.old }
+        ensures { self.new ≡ put_one self.old b }
     {
         if self.len < self.bytes.len() {
             self.bytes[self.len] = b;
         }
+        self.len = self.len.saturating_add(1);
     }
+
+    pub fn bytes(&mut self, bytes: &[u8])
+        ensures { self.new ≡ put self.old bytes.now }
+    {
+        for b in bytes {
+            self.byte(*b);
+        }
+    }
+}
+
+// How many bytes the call puts on a page.
+pub fn count<F: Fn(&mut Page<'_>)>(write: &F) -> usize
+    requires { F.IsAlwaysCallable write.now }
+    ensures { (told : List ℕ) → Puts F.Fn write.now told → result ≡ min (length told) most }
+{
+    let mut page = Page::new(&mut []);
+    write(&mut page);
+    page.len()
+}
+
+// What the call puts on a page fills the front of the buffer, and the answer is its length; a buffer too short is left as it was.
+pub fn fill<F: Fn(&mut Page<'_>)>(buffer: &mut [u8], write: F) -> Option<usize>
+    requires { F.IsAlwaysCallable write }
+    ensures { (told : List ℕ) → Puts F.Fn write told → Fills told buffer.old buffer.new result }
+{
+    let needed = count(&write);
+    if needed > buffer.len() {
+        return None;
+    }
+    let mut page = Page::new(buffer);
+    write(&mut page);
+    Some(needed)
 }

@@ -1,4 +1,4 @@
--- The texts that are printed. A part of a text takes what follows it, so that parts are put one before the other.
+-- The texts that are printed.
 use Rattle.std.specs.Prelude.{ℕ, ◌+◌, List, [], ◌∷◌, ◌++◌, length, codes, decimal}
 use Rattle.boxes.specs.declared.model.Place.{Place}
 use Rattle.faults.specs.declared.model.ImageFault.{ImageFault}
@@ -13,24 +13,24 @@ abbrev pub newline : ℕ
 newline = 10
 
 -- a number in decimal and the byte that ends it
-abbrev pub number_then : ℕ → ℕ → List ℕ → List ℕ
-number_then n mark rest = decimal n ++ (mark ∷ rest)
+abbrev pub number_then : ℕ → ℕ → List ℕ
+number_then n mark = decimal n ++ mark ∷ []
 
 -- a stay's number, its step and its metre
-abbrev pub stay_line : ℕ → Place → List ℕ → List ℕ
-stay_line n p rest = number_then n space (number_then p.step space (number_then p.metre newline rest))
+abbrev pub stay_line : ℕ → Place → List ℕ
+stay_line n p = number_then n space ++ (number_then p.step space ++ number_then p.metre newline)
 
 -- the stays, numbered from n
 abbrev pub stay_lines : ℕ → List Place → List ℕ
 stay_lines n [] = []
-stay_lines n (p ∷ places) = stay_line n p (stay_lines (n + 1) places)
+stay_lines n (p ∷ places) = stay_line n p ++ stay_lines (n + 1) places
 
 -- how many stays
-abbrev pub plan_head : ℕ → List ℕ → List ℕ
-plan_head n rest = codes "plan " ++ number_then n newline rest
+abbrev pub plan_head : ℕ → List ℕ
+plan_head n = codes "plan " ++ number_then n newline
 
 abbrev pub plan_text : List Place → List ℕ
-plan_text places = plan_head (length places) (stay_lines 1 places)
+plan_text places = plan_head (length places) ++ stay_lines 1 places
 
 abbrev pub no_plan_text : List ℕ
 no_plan_text = codes "no plan" ++ newline ∷ []
@@ -43,4 +43,4 @@ layer_word layer.Image = codes "image"
 -- the fault's number, the innermost layer and the byte
 abbrev pub fault_text : ImageFault → List ℕ
 fault_text f =
-    codes "fault " ++ number_then (cause_number f.cause) space (layer_word (cause_layer f.cause) ++ (space ∷ number_then f.offset newline []))
+    codes "fault " ++ (number_then (cause_number f.cause) space ++ (layer_word (cause_layer f.cause) ++ (space ∷ number_then f.offset newline)))

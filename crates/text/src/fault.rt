@@ -7,16 +7,14 @@ use std::fmt;
 
 #[derive(Clone, Copy, PartialEq, Eq, Debug)]
 pub enum TextFault {
-    Buffer,
+    Buffer = 36,
 }
 
 impl TextFault {
     pub fn number(self) -> u8
         ensures { result ≡ number self }
     {
-        match self {
-            TextFault::Buffer => 36,
-        }
+        self as u8
     }
 }
 

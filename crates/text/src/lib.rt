@@ -1,11 +1,9 @@
 // An answer as text, in a lent buffer: a plan line by line, or that there is none, or a fault.
-#![tactic(auto)]
+#![tactic(auto, using(page::proofs::Put::put_append), unfolding(page::specs::Pages::put))]
 
 mod fault;
 mod lines;
-mod parts;
 mod printer;
-mod report;
 #[cfg(test)]
 mod tests;
 mod theory;

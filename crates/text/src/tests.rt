@@ -1,22 +1,21 @@
 // What is printed of examples, and what of the buffer is left alone.
-use crate::{print_fault, print_no_plan, print_plan};
+use crate::{TextFault, print_fault, print_no_plan, print_plan};
 use axis::AxisFault;
 use boxes::Place;
 use faults::{Cause, ImageFault, SheetFault};
 use std::process::Abort;
 use std::test::Fail;
 
-fn check_plan(rt: &impl Abort, places: &[Place], text: &[u8]) -> Result<(), Fail> {
+fn check<F: Fn(&mut [u8]) -> Result<usize, TextFault>>(
+    rt: &impl Abort,
+    print: F,
+    text: &[u8],
+) -> Result<(), Fail>
+    requires { F.IsAlwaysCallable print }
+{
     let mut buffer = [b'#'; 40];
-    let length = print_plan(places, &mut buffer)?;
-    assert!(rt; &buffer[..length] == text);
-    Ok(())
-}
-
-fn check_fault(rt: &impl Abort, offset: usize, cause: Cause, text: &[u8]) -> Result<(), Fail> {
-    let mut buffer = [b'#'; 40];
-    let length = print_fault(ImageFault { offset, cause }, &mut buffer)?;
-    assert!(rt; &buffer[..length] == text);
+    assert_eq!(rt; print(&mut buffer)?, text.len());
+    assert!(rt; buffer.starts_with(text));
     Ok(())
 }
 
@@ -27,21 +26,43 @@ fn plans(rt: HostRuntime) -> Result<(), Fail> {
         Place { step: 3, metre: 0 },
         Place { step: 0, metre: 60 },
     ];
-    check_plan(&rt, &places, b"plan 3\n1 0 0\n2 3 0\n3 0 60\n")?;
-    check_plan(&rt, &[], b"plan 0\n")
+    check(
+        &rt,
+        |buffer| print_plan(&places, buffer),
+        b"plan 3\n1 0 0\n2 3 0\n3 0 60\n",
+    )?;
+    check(&rt, |buffer| print_plan(&[], buffer), b"plan 0\n")
 }
 
 #[test]
 fn faults_of_each_layer(rt: HostRuntime) -> Result<(), Fail> {
-    let full = SheetFault::Axis(AxisFault::Full);
-    check_fault(&rt, 120, Cause::Sheet(full), b"fault 5 axis 120\n")?;
-    check_fault(
+    let full = ImageFault {
+        offset: 120,
+        cause: Cause::Sheet(SheetFault::Axis(AxisFault::Full)),
+    };
+    check(
         &rt,
-        8,
-        Cause::Sheet(SheetFault::Window(2)),
+        |buffer| print_fault(full, buffer),
+        b"fault 5 axis 120\n",
+    )?;
+    let window = ImageFault {
+        offset: 8,
+        cause: Cause::Sheet(SheetFault::Window(2)),
+    };
+    check(
+        &rt,
+        |buffer| print_fault(window, buffer),
         b"fault 16 sheet 8\n",
     )?;
-    check_fault(&rt, 0, Cause::Length, b"fault 31 image 0\n")
+    let length = ImageFault {
+        offset: 0,
+        cause: Cause::Length,
+    };
+    check(
+        &rt,
+        |buffer| print_fault(length, buffer),
+        b"fault 31 image 0\n",
+    )
 }
 
 #[test]

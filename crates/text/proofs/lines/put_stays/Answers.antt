@@ -1,9 +1,11 @@
-use Rattle.std.proofs.Common.{arith}
-use Rattle.text.proofs.Stays.{stays_more, stays_all}
+use Rattle.std.proofs.Common.{◌+◌, refl, arith}
+use Rattle.page.proofs.Put.{each_more, each_all}
+use Rattle.text.specs.Texts.{stay_line, stay_lines}
 use Rattle.text.proofs.lines.put_stays.Goals as goal
 
 pub loop-i-preserved : goal.loop-i-preserved
-loop-i-preserved c = stays_more _ _ _ _ c.args.places.now _ c.loop-i.invariant c.put_stay.ensures (omega arith)
+loop-i-preserved c =
+    each_more (λ i. stay_line (i + 1)) (λ i. stay_lines (i + 1)) _ _ _ c.args.places.now _ _ _ (λ y ys. refl) (omega arith) c.loop-i.invariant refl c.put_stay.ensures
 
 pub returns : goal.returns
-returns c = stays_all _ _ _ c.args.places.now _ c.loop-i.invariant (omega arith)
+returns c = each_all (λ i. stay_line (i + 1)) (λ i. stay_lines (i + 1)) _ _ c.args.places.now _ refl (omega arith) c.loop-i.invariant

@@ -1,0 +1,6 @@
+-- The journal that a body tells.
+use Rattle.journal.specs.Journal.{Journal}
+use Rattle.image.specs.declared.body.Body.{Body}
+
+abbrev pub told : Body → Journal
+told b = record { span = b.span; platform = b.platform; stays = b.stays.now; entries = b.entries.now }
