@@ -1,11 +1,11 @@
 // What is done with one word for one pair: judged, its bound put with the trial noted, and taken back.
 ghost use Rattle.std.specs.Prelude.{◌≡◌, ◌<◌, true, length, Some, slice_index_or, slice_set};
-ghost use Rattle.stack.specs.Stacks.{contents, memory, loan};
+ghost use Rattle.stack.specs.Stacks.{contents};
 ghost use Rattle.axis.specs.Meaning.{Earliest};
 ghost use Rattle.boxes.specs.Order.{no_trial};
 ghost use Rattle.boxes.specs.Arranged.{step_of, metre_of};
 ghost use Rattle.trials.specs.Trials.{Node, ToldWord, entry_of, side};
-ghost use Rattle.trials.specs.Boards.{BackedUp, Entered, Fits, ImpliedAt, OnLoan, Open, Ready, SameLoans};
+ghost use Rattle.trials.specs.Boards.{BackedUp, Entered, Fits, ImpliedAt, OnLoan, Open, Ready, SameBoxes, SameLoans};
 
 use axis::Axis;
 use boxes::{Direction, Entry, Place, Size, lay_out, ruling};
@@ -16,13 +16,14 @@ use stack::{Stack, StackFault, Trial, Word};
 pub const WORDS: [Word; 4] = [Word::Before, Word::After, Word::Nearer, Word::Farther];
 
 // Boxes of these sizes on two axes, their trials, and the trials that got a word so far, the newest last.
+// The trail is lent like the rest: of a board that owns it, what its lenders have afterwards was not proved.
 #[derive(Drop)]
-pub struct Board<'a, T: Axis, P: Axis> {
+pub struct Board<'a, 't, T: Axis, P: Axis> {
     axes: &'a mut Axes<T, P>,
     sizes: &'a [Size],
     places: &'a mut [Place],
     trials: &'a mut [Trial],
-    trail: Stack<'a, Trial>,
+    trail: &'a mut Stack<'t, Trial>,
     tries: u64,
 }
 
@@ -35,7 +36,7 @@ fn side_of(word: Option<Word>) -> Direction
     }
 }
 
-impl<'a, T: Axis, P: Axis> Board<'a, T, P> {
+impl<'a, 't, T: Axis, P: Axis> Board<'a, 't, T, P> {
     pub fn axes(&self) -> &Axes<T, P>
         ensures { result.now ≡ self.now.axes.now }
     {
@@ -69,14 +70,16 @@ impl<'a, T: Axis, P: Axis> Board<'a, T, P> {
         sizes: &'a [Size],
         places: &'a mut [Place],
         trials: &'a mut [Trial],
-        slots: &'a mut [Trial],
-    ) -> Board<'a, T, P>
-        requires fits { Fits axes.old sizes.now places.old trials.old slots.old }
+        trail: &'a mut Stack<'t, Trial>,
+    ) -> Board<'a, 't, T, P>
+        requires fits { Fits axes.old sizes.now places.old trials.old trail.old }
         ensures ready { Ready T.Axis.holds P.Axis.holds result }
-        ensures lent { OnLoan axes.entry sizes.now places.entry trials.entry slots.entry result }
+        ensures lent { OnLoan axes.entry places.entry trials.entry trail.entry result }
+        ensures axes { result.axes.now ≡ axes.old }
+        ensures sizes { result.sizes.now ≡ sizes.now }
+        ensures places { result.places.now ≡ places.old }
     {
         lay_out(axes.box_count(sizes.len()), trials);
-        let trail = Stack::new(slots);
         Board {
             axes,
             sizes,
@@ -92,7 +95,8 @@ impl<'a, T: Axis, P: Axis> Board<'a, T, P> {
         ensures after { BackedUp self.old self.new result }
         ensures places { self.new.places.now ≡ self.old.places.now }
         ensures trials { self.new.trials.now ≡ self.old.trials.now }
-        ensures same { SameLoans self.old self.new }
+        ensures boxes { SameBoxes self.old self.new }
+        ensures loans { SameLoans self.old self.new }
     {
         let trial = self.trail.pop()?;
         let _ = self.axes.back(side_of(trial.word));
@@ -117,7 +121,8 @@ impl<'a, T: Axis, P: Axis> Board<'a, T, P> {
         requires open { Open self.old k }
         ensures after { Entered T.Axis.holds P.Axis.holds k word self.old self.new result }
         ensures places { self.new.places.now ≡ self.old.places.now }
-        ensures same { SameLoans self.old self.new }
+        ensures boxes { SameBoxes self.old self.new }
+        ensures loans { SameLoans self.old self.new }
     {
         let (entry, standing) = self.weigh(k, word);
         if standing == Standing::Impossible {
@@ -127,7 +132,10 @@ impl<'a, T: Axis, P: Axis> Board<'a, T, P> {
         if let Err(_) = self.axes.put(entry) {
             return false;
         }
-        let trial = Trial { word: Some(word), ..self.trials[k] };
+        let trial = Trial {
+            word: Some(word),
+            ..self.trials[k]
+        };
         let _ = self.trail.push(trial);
         self.trials[k] = trial;
         true
@@ -153,8 +161,9 @@ impl<'a, T: Axis, P: Axis> Board<'a, T, P> {
         ensures trials { self.new.trials.now ≡ slice_set self.old.trials.now k pair }
         ensures axes { self.new.axes.now ≡ self.old.axes.now }
         ensures places { self.new.places.now ≡ self.old.places.now }
-        ensures trail { contents self.new.trail ≡ contents self.old.trail }
-        ensures same { SameLoans self.old self.new }
+        ensures trail { contents self.new.trail.now ≡ contents self.old.trail.now }
+        ensures boxes { SameBoxes self.old self.new }
+        ensures loans { SameLoans self.old self.new }
     {
         self.trials[k] = pair;
     }
@@ -167,8 +176,9 @@ impl<'a, T: Axis, P: Axis> Board<'a, T, P> {
         ensures for_each { length self.new.places.now ≡ length self.old.sizes.now }
         ensures axes { self.new.axes.now ≡ self.old.axes.now }
         ensures trials { self.new.trials.now ≡ self.old.trials.now }
-        ensures trail { contents self.new.trail ≡ contents self.old.trail }
-        ensures same { SameLoans self.old self.new }
+        ensures trail { contents self.new.trail.now ≡ contents self.old.trail.now }
+        ensures boxes { SameBoxes self.old self.new }
+        ensures loans { SameLoans self.old self.new }
     {
         self.axes.place_all(self.places);
     }

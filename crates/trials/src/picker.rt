@@ -55,7 +55,7 @@ fn area(size: Size) -> u32 {
     u32::from(size.steps).saturating_mul(u32::from(size.metres))
 }
 
-impl<'a, T: Axis, P: Axis> Board<'a, T, P> {
+impl<'a, 't, T: Axis, P: Axis> Board<'a, 't, T, P> {
     // Of a word and its mirrored one along that direction.
     fn weigh_along(&self, direction: Direction, trial: Trial) -> (Standing, Standing) {
         let out = self.axes().reach(direction, trial.i, trial.j);
