@@ -130,10 +130,3 @@ module _ (m : Meanings) (sizes : List Size) (ts : List Trial) (node : Node m siz
           on_platform = let a = r.on_platform in omega (arith, g.1);
           on_trail = let a = r.on_trail in omega arith;
         }
-
-    -- backing up from below
-    pub backed : (trail above : List Trial) (x : Trial) (n m' : Meanings) (r : Result Unit AxisFault) → n ≡ grown m (entry_of sizes ts k w) → trail ++ worded ts k w ∷ [] ≡ above ++ x ∷ [] → BackOn (side x.word) n r m' → (m' ≡ m) × (above ≡ trail)
-    backed trail above x n m' r g e b =
-        let s = same_from_push above trail x (worded ts k w) (sym e) in
-        let d : side x.word ≡ entry.direction = ap (λ (u : Trial). side u.word) s.1 ∙ side_is sizes _ _ w in
-        (back_grown m entry.bound entry.direction n m' r g (subst (λ d. BackOn d n r m') d b), s.0)
