@@ -1,5 +1,5 @@
 -- What the answer from the node below says of a descent's node.
-use Rattle.std.proofs.Common.{◌≡◌, ℕ, ◌+◌, ◌<◌, ◌≤◌, Bool, true, false, List, length, get_or, set, ℤ, is_some, Some, None, Option, sym, refl, ap, ◌∙◌, subst, inl, inr, arith}
+use Rattle.std.proofs.Common.{◌≡◌, ℕ, ◌<◌, ◌≤◌, true, List, length, get_or, set, ℤ, is_some, Some, None, Option, sym, refl, ap, ◌∙◌, subst, inl, inr, arith}
 use Rattle.std.specs.List.{ContainsAt}
 use Rattle.std.proofs.lemmas.List.{length-set, length-map, get_or-set_same, get_or-set_other, set-set, set-get_or}
 use Rattle.std.proofs.lemmas.Bool.{cases_eq, false≢true}
@@ -39,8 +39,8 @@ module _ (m : Meanings) (sizes : List Size) (ts : List Trial) (node : Node m siz
     pub set_back : (get_or ts k no_trial).word ≡ None → (after : List Trial) → after ≡ us → set after k (unworded after k) ≡ ts
     set_back o after f =
         let own : unworded (set ts k (worded ts k w)) k ≡ get_or ts k no_trial =
-            ap (λ (t : Trial). record { i = t.i; j = t.j; word = None }) (get_or-set_same ts k (worded ts k w) no_trial h)
-            ∙ ap (λ v. record { i = (get_or ts k no_trial).i; j = (get_or ts k no_trial).j; word = v }) (sym o) in
+        ap (λ (t : Trial). record { i = t.i; j = t.j; word = None }) (get_or-set_same ts k (worded ts k w) no_trial h)
+        ∙ ap (λ v. record { i = (get_or ts k no_trial).i; j = (get_or ts k no_trial).j; word = v }) (sym o) in
         ap (λ xs. set xs k (unworded xs k)) (f ∙ e) ∙ ap (set (set ts k (worded ts k w)) k) own ∙ set-set ts k (worded ts k w) (get_or ts k no_trial) ∙ set-get_or ts k no_trial
 
     -- the answer from below

@@ -1,15 +1,10 @@
 -- From the board below back up to the board where the word was put.
-use Rattle.std.proofs.Common.{◌≡◌, ℕ, zero, suc, ◌+◌, ◌<◌, Bool, true, false, [], ◌∷◌, ◌++◌, length, get_or, set, Some, Ok, Err, Result, sym, refl, ap, ◌∙◌, subst, arith, below_more}
-use Rattle.std.proofs.lemmas.List.{length_push}
+use Rattle.std.proofs.Common.{◌≡◌, ℕ, zero, suc, ◌+◌, ◌<◌, Bool, true, false, [], ◌∷◌, get_or, set, Some, sym, refl, subst, arith, below_more}
 use Rattle.stack.specs.declared.elements.Word.{Word}
 use Rattle.stack.specs.declared.elements.Word.TheVariants.{Before, After, Nearer, Farther}
-use Rattle.stack.specs.declared.fault.StackFault.{StackFault}
-use Rattle.stack.specs.Stacks.{contents}
-use Rattle.boxes.specs.Order.{no_trial}
 use Rattle.trials.specs.declared.board.Board.{Board}
 use Rattle.trials.specs.Trials.{unworded, nth_word}
-use Rattle.trials.specs.Boards.{Open, RefutedAt, ImpliedAt, Ready, SameLoans, Below, BackedUp}
-use Rattle.trials.proofs.Nodes.{backed}
+use Rattle.trials.specs.Boards.{Open, RefutedAt, ImpliedAt, Ready, SameLoans, Below}
 use Rattle.packing.specs.Descent.{Reached, Unarranged, Explored, Restored}
 use Rattle.packing.proofs.Above.{none_up, set_back, reached_up}
 

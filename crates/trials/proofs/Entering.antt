@@ -1,13 +1,11 @@
 -- A board and the one below it.
-use Rattle.std.proofs.Common.{◌≡◌, ℕ, ◌+◌, ◌<◌, [], ◌∷◌, ◌++◌, length, set, sym, ap, ◌∙◌, subst, arith}
+use Rattle.std.proofs.Common.{◌≡◌, ℕ, ◌+◌, ◌<◌, [], ◌∷◌, ◌++◌, length, set, ap, ◌∙◌, arith}
 use Rattle.std.proofs.lemmas.List.{length_push}
 use Rattle.stack.specs.declared.elements.Word.{Word}
-use Rattle.stack.specs.declared.elements.Trial.{Trial}
 use Rattle.stack.specs.Stacks.{contents, memory}
-use Rattle.boxes.specs.declared.model.Size.{Size}
-use Rattle.moves.specs.Meanings.{Meanings, grown}
+use Rattle.moves.specs.Meanings.{grown}
 use Rattle.trials.specs.declared.board.Board.{Board}
-use Rattle.trials.specs.Trials.{open_count, Node, Room, worded, entry_of}
+use Rattle.trials.specs.Trials.{open_count, worded, entry_of}
 use Rattle.trials.specs.Boards.{Open, Ready, SameLoans, Below}
 use Rattle.trials.proofs.Nodes.{open_some, node_below, room_below, open_falls}
 

@@ -1,7 +1,7 @@
 -- A node and the one below it: a word more stands, and it can be taken back.
-use Rattle.std.proofs.Common.{◌≡◌, ℕ, zero, suc, ◌+◌, ◌<◌, ◌≤◌, List, [], ◌∷◌, ◌++◌, map, length, get_or, set, ℤ, Some, None, Ok, Err, Option, Result, sym, refl, ap, ◌∙◌, subst, arith}
+use Rattle.std.proofs.Common.{◌≡◌, ℕ, zero, suc, ◌+◌, ◌<◌, ◌≤◌, List, [], ◌∷◌, map, length, get_or, set, ℤ, Some, None, Ok, Err, Option, Result, sym, refl, ap, ◌∙◌, subst, arith}
 use Rattle.std.specs.List.{ContainsAt}
-use Rattle.std.proofs.lemmas.List.{length-map, get_or-map, set-get_or, map-set, length_push, same_from_push}
+use Rattle.std.proofs.lemmas.List.{length-map, get_or-map, set-get_or, map-set}
 use Rattle.std.proofs.ByRecursion.{has_get_or, has_push, has_append_left, All-set, All-weaker}
 use Rattle.stack.specs.declared.elements.Word.{Word}
 use Rattle.stack.specs.declared.elements.Word.TheVariants.{Before, After, Nearer, Farther}
@@ -21,8 +21,8 @@ use Rattle.boxes.proofs.Ordered.{order_within}
 use Rattle.moves.specs.Meanings.{Meanings, along, grown}
 use Rattle.moves.specs.declared.moves.Standing.TheVariants.{Implied, Possible, Impossible}
 use Rattle.moves.specs.declared.moves.Standing.{Standing}
-use Rattle.moves.specs.Moves.{PutOn, BackOn, Told}
-use Rattle.moves.proofs.Grown.{put_refutes, put_grows, told_refutes, told_kept, back_grown, grown_lines, grown_length}
+use Rattle.moves.specs.Moves.{PutOn, Told}
+use Rattle.moves.proofs.Grown.{put_refutes, put_grows, told_refutes, told_kept, grown_lines, grown_length}
 use Rattle.trials.specs.Trials.{open_one, open_count, StandsWord, Stands, Node, Room, Refuted, side, ToldWord, worded, entry_of}
 
 -- one trial has its word
