@@ -76,6 +76,6 @@ settle_asks k places trials =
     ∷ []
 
 -- all questions are answered yes, or this is the refusal of the first that is not
-abbrev pub Answered : Asked → Result Unit SheetFault → Type 0
-Answered qs (Ok u) = AllYes qs
+abbrev pub Answered : {A : Type 0} → Asked → Result A SheetFault → Type 0
+Answered qs (Ok a) = AllYes qs
 Answered qs (Err f) = FirstNo qs f

@@ -1,8 +1,9 @@
 // The questions of a load.
-ghost use Rattle.std.specs.Prelude.{◌≡◌, ℕ, ◌<◌, ◌≤◌, true, false, length, OnOk, slice_index_or};
+ghost use Rattle.std.specs.Prelude.{◌≡◌, ℕ, ◌<◌, ◌≤◌, true, false, length, IfOk, slice_index_or};
 ghost use Rattle.journal.specs.Stays.{GoodStay, no_stay};
 ghost use Rattle.journal.specs.Asks.{Answered, Extents, load_asks, stay_asks, stays_ask};
 
+use crate::loading::Loading;
 use crate::model::Stay;
 use faults::SheetFault;
 
@@ -45,9 +46,13 @@ fn check_stays(span: u16, platform: u16, stays: &[Stay]) -> Result<(), SheetFaul
 }
 
 // All that a load asks.
-pub fn check_load(span: u16, platform: u16, stays: &[Stay]) -> Result<(), SheetFault>
+pub fn check_load<'a>(
+    span: u16,
+    platform: u16,
+    stays: &'a [Stay],
+) -> Result<Loading<'a>, SheetFault>
     ensures asked { Answered (load_asks span platform stays.now) result }
-    ensures good { OnOk result ((k : ℕ) → k < length stays.now → GoodStay span platform (slice_index_or stays.now k no_stay)) }
+    ensures given { IfOk result (λ l. (l.span ≡ span) × (l.platform ≡ platform) × (l.stays.now ≡ stays.now)) }
 {
     if !in_range(span, platform) {
         return Err(SheetFault::Extents);
@@ -55,5 +60,10 @@ pub fn check_load(span: u16, platform: u16, stays: &[Stay]) -> Result<(), SheetF
     if stays.len() > 12 {
         return Err(SheetFault::Stays);
     }
-    check_stays(span, platform, stays)
+    check_stays(span, platform, stays)?;
+    Ok(Loading {
+        span,
+        platform,
+        stays,
+    })
 }
