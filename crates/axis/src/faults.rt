@@ -10,15 +10,7 @@ impl AxisFault {
     pub fn number(self) -> u8
         ensures { result ≡ number self }
     {
-        match self {
-            AxisFault::Lists => 1,
-            AxisFault::Ranges => 2,
-            AxisFault::Line => 3,
-            AxisFault::Length => 4,
-            AxisFault::Full => 5,
-            AxisFault::NoPlacement => 6,
-            AxisFault::NoBound => 7,
-        }
+        self as u8
     }
 }
 

@@ -8,9 +8,10 @@ pub struct Bound {
     pub d: i16,
 }
 
+// The refusals are numbered from 1 in this order.
 #[derive(Clone, Copy, PartialEq, Eq, Debug)]
 pub enum AxisFault {
-    Lists,
+    Lists = 1,
     Ranges,
     Line,
     Length,

@@ -1,5 +1,4 @@
 // What the distances of every axis tell: the earliest and the latest value of a line, and the theory behind them.
-ghost use Rattle.std.specs.Prelude.{◌≡◌, pos, neg_ℤ, ◌≤ℤ◌};
 ghost use Rattle.axis.specs.Theory.{DistancesHold, EarliestOf, LatestOf, ReachOf};
 
 use crate::Axis;
@@ -9,15 +8,7 @@ use crate::model::AxisFault;
 pub fn earliest<A: Axis>(axis: &A, line: u8) -> Result<i16, AxisFault>
     ensures { EarliestOf (A.means axis.now) line result }
 {
-    let reach = reach(axis, 0, line)?;
-    Ok(negated(reach))
-}
-
-fn negated(length: i16) -> i16
-    requires { (neg_ℤ (pos 2880) ≤ℤ length) × (length ≤ℤ pos 2880) }
-    ensures { result ≡ neg_ℤ length }
-{
-    -length
+    Ok(-reach(axis, 0, line)?)
 }
 
 // The largest difference, and what it tells of a line less line 0, and of line 0 less a line.

@@ -1,3 +1,4 @@
+pub mod Letters
 pub mod Overlaps
 pub mod Order
 pub mod Arranged

@@ -9,6 +9,13 @@ use Rattle.faults.specs.declared.model.ImageFault.{ImageFault}
 abbrev pub in_sheet : AxisFault → SheetFault
 in_sheet f = sheet.Axis f
 
+-- a letter that names no axis, and one that names no word
+abbrev pub no_direction : SheetFault
+no_direction = sheet.Letter
+
+abbrev pub no_word : SheetFault
+no_word = sheet.Word
+
 abbrev pub in_cause : SheetFault → Cause
 in_cause f = cause.Sheet f
 

@@ -1,8 +1,10 @@
 // The faults of a sheet and of an image.
 ghost use Rattle.std.specs.Prelude.{◌≡◌};
-ghost use Rattle.faults.specs.Carried.{in_sheet, in_cause, in_image};
+ghost use Rattle.faults.specs.Carried.{in_sheet, no_direction, no_word, in_cause, in_image};
 
 use axis::AxisFault;
+use boxes::NoDirection;
+use stack::NoWord;
 
 // Why a sheet refuses a call. A number is that of the stay, from 1.
 #[derive(Clone, Copy, PartialEq, Eq, Debug)]
@@ -55,6 +57,22 @@ impl From<AxisFault> for SheetFault {
 
     fn from(fault: AxisFault) -> SheetFault {
         SheetFault::Axis(fault)
+    }
+}
+
+impl From<NoDirection> for SheetFault {
+    ghost from_gives = { λ _ r. r ≡ no_direction };
+
+    fn from(_e: NoDirection) -> SheetFault {
+        SheetFault::Letter
+    }
+}
+
+impl From<NoWord> for SheetFault {
+    ghost from_gives = { λ _ r. r ≡ no_word };
+
+    fn from(_e: NoWord) -> SheetFault {
+        SheetFault::Word
     }
 }
 

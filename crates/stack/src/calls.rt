@@ -1,5 +1,5 @@
 // The calls on a stack.
-ghost use Rattle.std.specs.Prelude.{◌≡◌, ◌+◌, ◌<◌, [], ◌∷◌, ◌++◌, length, slice_index_or, slice_set};
+ghost use Rattle.std.specs.Prelude.{◌≡◌, ◌<◌, [], ◌∷◌, ◌++◌, length};
 ghost use Rattle.stack.specs.Stacks.{contents, Fresh, loan, memory, Popped, Pushed};
 
 use crate::{Blank, Stack, StackFault};
@@ -22,7 +22,8 @@ impl<'a, E: Blank + Copy> Stack<'a, E> {
         if self.len >= self.slots.len() {
             return Err(StackFault::Full);
         }
-        self.store(x);
+        self.slots[self.len] = x;
+        self.len += 1;
         Ok(())
     }
 
@@ -35,7 +36,10 @@ impl<'a, E: Blank + Copy> Stack<'a, E> {
         if self.len == 0 {
             return Err(StackFault::Empty);
         }
-        Ok(self.lift())
+        self.len -= 1;
+        let x = self.slots[self.len];
+        self.slots[self.len] = E::blank();
+        Ok(x)
     }
 
     pub fn len(&self) -> usize
@@ -50,30 +54,5 @@ impl<'a, E: Blank + Copy> Stack<'a, E> {
         ensures { result.now ≡ contents self.now }
     {
         &self.slots[0..self.len]
-    }
-
-    // Writes x into the first slot that holds no element.
-    fn store(&mut self, x: E)
-        requires { self.old.len < length (memory self.old) }
-        ensures places { memory self.new ≡ slice_set (memory self.old) self.old.len x }
-        ensures count { self.new.len ≡ self.old.len + 1 }
-        ensures same { loan self.new ≡ loan self.old }
-    {
-        self.slots[self.len] = x;
-        self.len += 1;
-    }
-
-    // Takes the newest element out of its slot.
-    fn lift(&mut self) -> E
-        requires { 0 < self.old.len }
-        ensures top { result ≡ slice_index_or (memory self.old) self.new.len E.nothing }
-        ensures places { memory self.new ≡ slice_set (memory self.old) self.new.len E.nothing }
-        ensures count { self.old.len ≡ self.new.len + 1 }
-        ensures same { loan self.new ≡ loan self.old }
-    {
-        self.len -= 1;
-        let x = self.slots[self.len];
-        self.slots[self.len] = E::blank();
-        x
     }
 }

@@ -6,18 +6,15 @@ use std::fmt;
 
 #[derive(Clone, Copy, PartialEq, Eq, Debug)]
 pub enum StackFault {
-    Full,
-    Empty,
+    Full = 41,
+    Empty = 42,
 }
 
 impl StackFault {
     pub fn number(self) -> u8
         ensures { result ≡ number self }
     {
-        match self {
-            StackFault::Full => 41,
-            StackFault::Empty => 42,
-        }
+        self as u8
     }
 }
 

@@ -4,6 +4,7 @@
 mod calls;
 pub mod elements;
 pub mod fault;
+mod letters;
 #[cfg(test)]
 mod tests;
 
@@ -11,6 +12,7 @@ ghost use Rattle.std.specs.Prelude.{◌≡◌, ◌≤◌, length};
 
 pub use elements::{Trial, Word};
 pub use fault::StackFault;
+pub use letters::NoWord;
 
 // What stands in a slot that holds no element.
 pub trait Blank {
@@ -20,7 +22,8 @@ pub trait Blank {
         ensures { result ≡ nothing };
 }
 
-// The elements are the first len slots, oldest first. The memory stays the lender's.
+// The elements are the first len slots, oldest first.
+// Kept as slots with a length beside them: the memory stays the lender's, and no call may need more.
 #[derive(Drop)]
 pub struct Stack<'a, E> {
     slots: &'a mut [E],

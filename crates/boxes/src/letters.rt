@@ -1,0 +1,44 @@
+// The letters that name the axes: T for time, P for the platform.
+ghost use Rattle.std.specs.Prelude.{◌≡◌};
+ghost use Rattle.boxes.specs.Letters.{letter_of, Names};
+
+use crate::Direction;
+use std::error::Error;
+use std::fmt;
+
+// A letter that names no axis.
+#[derive(Clone, Copy, PartialEq, Eq, Debug)]
+pub struct NoDirection;
+
+impl TryFrom<char> for Direction {
+    type Error = NoDirection;
+
+    ghost try_from_gives = { Names };
+
+    fn try_from(letter: char) -> Result<Direction, NoDirection> {
+        match letter {
+            'T' => Ok(Direction::Time),
+            'P' => Ok(Direction::Platform),
+            _ => Err(NoDirection),
+        }
+    }
+}
+
+impl From<Direction> for char {
+    ghost from_gives = { λ direction letter. letter ≡ letter_of direction };
+
+    fn from(direction: Direction) -> char {
+        match direction {
+            Direction::Time => 'T',
+            Direction::Platform => 'P',
+        }
+    }
+}
+
+impl fmt::Display for NoDirection {
+    fn fmt<W: fmt::Write>(&self, f: &mut fmt::Formatter<W>) -> fmt::Result {
+        f.write_str("the letter is not T or P")
+    }
+}
+
+impl Error for NoDirection {}
