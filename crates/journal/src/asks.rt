@@ -11,20 +11,20 @@ fn in_range(span: u16, platform: u16) -> bool
     ensures yes { result ≡ true → Extents span platform }
     ensures no { result ≡ false → Extents span platform → ⊥ }
 {
-    1 <= span && span <= 2880 && 1 <= platform && platform <= 1000
+    (1..=2880).contains(&span) && (1..=1000).contains(&platform)
 }
 
 // Sums of two 16-bit numbers are taken at 32 bits, so that none wraps.
 fn check_stay(span: u16, platform: u16, number: u8, stay: Stay) -> Result<(), SheetFault>
     ensures { Answered (stay_asks span platform number stay) result }
 {
-    if stay.circuit < 1 || stay.circuit > 43200 {
+    if !(1..=43200).contains(&stay.circuit) {
         return Err(SheetFault::Circuit(number));
     }
     if stay.lead as u32 + stay.dwell as u32 > stay.circuit as u32 {
         return Err(SheetFault::Doors(number));
     }
-    if stay.metres < 1 || stay.metres > platform {
+    if !(1..=platform).contains(&stay.metres) {
         return Err(SheetFault::Length(number));
     }
     let gone = stay.closing(span);

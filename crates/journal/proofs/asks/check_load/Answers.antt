@@ -1,4 +1,3 @@
-use Rattle.std.proofs.Common.{rules}
 use Rattle.journal.proofs.Asked.{all_good}
 use Rattle.journal.proofs.asks.check_load.Goals as goal
 

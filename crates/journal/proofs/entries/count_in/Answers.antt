@@ -1,6 +1,5 @@
-use Rattle.std.proofs.Common.{length, refl, arith, rules}
+use Rattle.std.proofs.Common.{length, refl, rules}
 use Rattle.std.proofs.lemmas.List.Recursion.{is_count_by}
-use Rattle.std.proofs.lemmas.Grind.{common_steps}
 use Rattle.journal.specs.Journal.{bounds_on}
 use Rattle.journal.proofs.Entered.{on, one_on}
 use Rattle.journal.proofs.entries.count_in.Goals as goal
