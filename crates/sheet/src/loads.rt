@@ -66,7 +66,12 @@ impl<T: Axis, P: Axis> Sheet<T, P> {
     {
         let loading = check_load(span, platform, stays)?;
         line_up(&mut self.axes, &mut self.ranges, Direction::Time, &loading);
-        line_up(&mut self.axes, &mut self.ranges, Direction::Platform, &loading);
+        line_up(
+            &mut self.axes,
+            &mut self.ranges,
+            Direction::Platform,
+            &loading,
+        );
         self.stays.refill(&loading);
         self.entries.clear();
         Ok(())
