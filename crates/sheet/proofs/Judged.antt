@@ -10,13 +10,12 @@ use Rattle.boxes.specs.Arranged.{Arranged, step_of, metre_of}
 use Rattle.faults.specs.declared.model.SheetFault.{SheetFault}
 use Rattle.moves.specs.Meanings.{Meanings}
 use Rattle.packing.specs.Packs.{Packed}
-use Rattle.packing.specs.declared.packs.NoArrangement.{NoArrangement}
 use Rattle.journal.specs.Stays.{size_of}
 use Rattle.journal.specs.Journal.{Journal, sizes_of}
 use Rattle.journal.specs.Steps.{settle, plan, Settled, Step}
 use Rattle.sheet.specs.Standing.{axes_of}
 
-found : (r : Result ℕ NoArrangement) (f : SheetFault) (n : ℕ) → result_or r (Err f) ≡ Ok n → r ≡ Ok n
+found : {N : Type 0} (r : Result ℕ N) (f : SheetFault) (n : ℕ) → result_or r (Err f) ≡ Ok n → r ≡ Ok n
 found (Ok m) f n h = cc
 found (Err e) f n h = cc
 
@@ -26,7 +25,7 @@ module _ (k : Journal) (old new : List Place) (before after : List Trial) where
   plan_found places trials settled =
       ((places, (trials, ((step_of (take (length k.stays) new), (metre_of (take (length k.stays) new), settled.arrangement)), tt))), ((take (length k.stays) new, (take (pairs (length k.stays)) after, (refl, settled))), refl))
 
-  pub settled : (m : Meanings) (sizes : List Size) (r : Result ℕ NoArrangement) (f : SheetFault) (n : ℕ) → m ≡ axes_of k → sizes ≡ sizes_of k → Packed m.time m.platform sizes old new before after r → result_or r (Err f) ≡ Ok n
+  pub settled : {N : Type 0} (m : Meanings) (sizes : List Size) (r : Result ℕ N) (f : SheetFault) (n : ℕ) → m ≡ axes_of k → sizes ≡ sizes_of k → Packed m sizes old new before after r → result_or r (Err f) ≡ Ok n
       → length k.stays ≤ length old → pairs (length k.stays) ≤ length before → Step k (settle (length old) (length before)) (plan (take (length k.stays) new) (take (pairs (length k.stays)) after)) k
   settled m sizes r f n held same packed or places trials =
       let own = rw (found r f n or, held, same) at packed in
