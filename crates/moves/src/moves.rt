@@ -6,7 +6,7 @@ ghost use Rattle.boxes.specs.Arranged.{step_of, metre_of};
 ghost use Rattle.moves.specs.Meanings.{along, BothValid};
 ghost use Rattle.moves.specs.Moves.{ResetOn, PutOn, BackOn, Told};
 
-use crate::places::place_of;
+use crate::places::{line_count, place_of};
 use axis::{Axis, AxisFault, Bound};
 use boxes::{Direction, Entry, Place};
 use std::marker::Model;
@@ -115,6 +115,15 @@ impl<T: Axis, P: Axis> Axes<T, P> {
             Direction::Time => self.time.count(),
             Direction::Platform => self.platform.count(),
         }
+    }
+
+    // So many boxes, with a line for each: there are never more than twelve.
+    pub fn box_count(&self, boxes: usize) -> u8
+        requires { lines self.now.time ≡ boxes }
+        ensures count { result ≡ boxes }
+        ensures few { result ≤ 12 }
+    {
+        line_count(&self.time, boxes)
     }
 
     // Each box's earliest step and nearest metre.

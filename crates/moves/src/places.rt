@@ -1,5 +1,5 @@
 // The least place of one box.
-ghost use Rattle.std.specs.Prelude.{◌≤◌, pos};
+ghost use Rattle.std.specs.Prelude.{◌≡◌, ◌≤◌, pos};
 ghost use Rattle.axis.specs.Meaning.{lines};
 ghost use Rattle.axis.specs.Theory.{EarliestValue};
 
@@ -22,4 +22,13 @@ pub fn place_of<T: Axis, P: Axis>(time: &T, platform: &P, line: u8) -> (u16, u16
     ensures { EarliestValue (T.Axis.means time.now) line (pos result.0) × EarliestValue (P.Axis.means platform.now) line (pos result.1) }
 {
     (least(time, line), least(platform, line))
+}
+
+// How many lines an axis has.
+pub fn line_count<A: Axis>(_axis: &A, count: usize) -> u8
+    requires { lines (A.means _axis.now) ≡ count }
+    ensures count { result ≡ count }
+    ensures few { result ≤ 12 }
+{
+    count as u8
 }
