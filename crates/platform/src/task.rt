@@ -26,8 +26,6 @@ pub fn task<A: Axis>(axis: &mut A) -> Result<[(i16, i16); 3], AxisFault>
     ensures after { A.means axis.new ≡ worked }
 {
     set_up(axis)?;
-    let first = span(axis, 1)?;
-    let second = span(axis, 2)?;
-    let third = span(axis, 3)?;
-    Ok([first, second, third])
+    let [first, second, third] = [1, 2, 3].map(|line| span(axis, line));
+    Ok([first?, second?, third?])
 }
