@@ -1,5 +1,5 @@
 -- The worked task is accepted, and its numbers are these.
-use Rattle.std.proofs.Common.{◌≡◌, ℕ, zero, suc, ◌≤◌, List, [], ◌∷◌, ℤ, pos, neg_ℤ, ◌≤ℤ◌, Ok, Err, Result, refl, ap, ◌∙◌, subst, inl, inr, arith}
+use Rattle.std.proofs.Common.{◌≡◌, ℕ, zero, suc, ◌≤◌, List, [], ◌∷◌, ℤ, pos, neg_ℤ, ◌≤ℤ◌, Ok, Err, Result, refl, subst, inl, inr, arith, rules}
 use Rattle.std.proofs.lemmas.Int.{ints}
 use Rattle.axis.specs.declared.model.AxisFault.{AxisFault}
 use Rattle.axis.specs.Meaning.{Meaning, Remains}
@@ -20,16 +20,16 @@ abbrev bare : Meaning
 bare = record { lows = lows; highs = highs; bounds = [] }
 
 ordered : Ordered lows highs
-ordered zero h = (omega (arith, ints), (omega (arith, ints), omega (arith, ints)))
-ordered (suc zero) h = (omega (arith, ints), (omega (arith, ints), omega (arith, ints)))
-ordered (suc (suc zero)) h = (omega (arith, ints), (omega (arith, ints), omega (arith, ints)))
+ordered zero h = search (rules, ints)
+ordered (suc zero) h = search (rules, ints)
+ordered (suc (suc zero)) h = search (rules, ints)
 ordered (suc (suc (suc k))) h = absurd (omega arith)
 
 paired : Paired lows highs
 paired = (refl, omega arith)
 
 within : AllWithin 3 worked.bounds
-within b (zero, h, at) = subst (λ c. Named 3 c.p c.q × ((neg_ℤ (pos 4000) ≤ℤ c.d) × (c.d ≤ℤ pos 4000))) (at b) ((omega arith, omega arith), (omega (arith, ints), omega (arith, ints)))
+within b (zero, h, at) = subst (λ c. Named 3 c.p c.q × ((neg_ℤ (pos 4000) ≤ℤ c.d) × (c.d ≤ℤ pos 4000))) (at b) search (rules, ints)
 within b (suc k, h, at) = absurd (omega arith)
 
 opens : Open worked
@@ -72,7 +72,7 @@ span_is k m x h e s =
     let t = subst (λ m. EarliestValue m k x.0 × LatestValue m k x.1) e s in
     let a = earliest_is k x.0 h t.0 in
     let b = latest_is k x.1 h t.1 in
-    ap {B = ℤ × ℤ} (λ u. (u, x.1)) a ∙ ap {B = ℤ × ℤ} (λ u. (neg_ℤ (distance worked 0 k), u)) b
+    λ i. (a i, b i)
 
 pub times_are : (neg_ℤ (distance worked 0 1), distance worked 1 0) ∷ (neg_ℤ (distance worked 0 2), distance worked 2 0) ∷ (neg_ℤ (distance worked 0 3), distance worked 3 0) ∷ [] ≡ times
 unfolding base mend
