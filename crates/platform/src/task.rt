@@ -6,6 +6,7 @@ ghost use Rattle.platform.specs.Task.{worked, times, Spanned};
 use axis::{Axis, AxisFault, Bound, earliest, latest};
 
 // Three lines with their ranges, and one bound.
+#[tactic(auto, using(crate::proofs::Worked::put_done))]
 fn set_up<A: Axis>(axis: &mut A) -> Result<(), AxisFault>
     ensures answer { result ≡ Ok tt }
     ensures after { A.means axis.new ≡ worked }

@@ -1,11 +1,6 @@
-use Rattle.std.proofs.Common.{Ok, ap, arith, rules}
-use Rattle.platform.proofs.Worked.{span_is, times_are}
+use Rattle.std.proofs.Common.{Ok, ap, rules}
+use Rattle.platform.proofs.Worked.{times_told}
 use Rattle.platform.proofs.task.task.Goals as goal
 
 pub returns-clause-answer : goal.returns-clause-answer
-returns-clause-answer g c =
-    let after = c.set_up.ensures.after in
-    let x = span_is 1 _ c.in_ok-first.field-0 (omega arith) after (search rules) in
-    let y = span_is 2 _ c.in_ok-second.field-0 (omega arith) after (search rules) in
-    let z = span_is 3 _ c.in_ok-third.field-0 (omega arith) after (search rules) in
-    ap Ok (cc times_are)
+returns-clause-answer g c = ap Ok (times_told _ _ _ _ c.set_up.ensures.after (search rules) (search rules) (search rules))
