@@ -39,6 +39,6 @@ impl Random {
         requires { (0 < N) × (N < 65536) }
         ensures { ContainsAt items.now result }
     {
-        items[self.below(N as u16) as usize]
+        items[usize::from(self.below(N as u16))]
     }
 }

@@ -60,8 +60,12 @@ pub fn ranges_around(
         .collect(heap)
 }
 
-// The reset to the lows of some ranges and the highs of others; a good one takes both from the same.
-pub fn reset(heap: Global, lows: &[Range], highs: &[Range]) -> Result<Call, AllocError> {
+pub fn reset_to(heap: Global, ranges: &[Range]) -> Result<Call, AllocError> {
+    reset_to_both(heap, ranges, ranges)
+}
+
+// The lows of some ranges and the highs of others, which need not be equally many.
+fn reset_to_both(heap: Global, lows: &[Range], highs: &[Range]) -> Result<Call, AllocError> {
     Ok(Call::Reset {
         lows: lows.iter().map(|range| range.low).collect(heap)?,
         highs: highs.iter().map(|range| range.high).collect(heap)?,
@@ -77,26 +81,26 @@ pub fn spoiled_reset(
     match random.below(4) {
         0 => {
             ranges.push(ZERO)?;
-            reset(heap, ranges.as_slice(), &ranges[..lines])
+            reset_to_both(heap, ranges.as_slice(), &ranges[..lines])
         },
         1 => {
             ranges.push(ZERO)?;
-            reset(heap, &ranges[..lines], ranges.as_slice())
+            reset_to_both(heap, &ranges[..lines], ranges.as_slice())
         },
         // one line more than an axis may have
         2 => {
             ranges.resize(LINES, WIDEST)?;
-            reset(heap, ranges.as_slice(), ranges.as_slice())
+            reset_to(heap, ranges.as_slice())
         },
         _ => {
             spoil_one(ranges.as_mut_slice(), random);
-            reset(heap, ranges.as_slice(), ranges.as_slice())
+            reset_to(heap, ranges.as_slice())
         },
     }
 }
 
 fn spoil_one(ranges: &mut [Range], random: &mut Random) {
-    let place = random.below(12) as usize % ranges.len().max(1);
+    let place = usize::from(random.below(12)) % ranges.len().max(1);
     let bad = random.pick(&BAD);
     if let Some(range) = ranges.get_mut(place) {
         *range = bad;

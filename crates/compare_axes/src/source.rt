@@ -2,7 +2,7 @@
 use crate::calls::{Call, LINES};
 use crate::manner::Manner;
 use crate::random::Random;
-use crate::ranges::{Range, ranges_around, reset, spoiled_reset};
+use crate::ranges::{Range, ranges_around, reset_to, spoiled_reset};
 use axis::Bound;
 use std::alloc::{AllocError, Global};
 
@@ -33,7 +33,7 @@ impl Source {
         self.manner = Manner::draw(&mut self.random);
         draw_values(&mut self.random, &mut self.values);
         let ranges = self.ranges()?;
-        reset(self.heap, ranges.as_slice(), ranges.as_slice())
+        reset_to(self.heap, ranges.as_slice())
     }
 
     pub fn next_call(&mut self) -> Result<Call, AllocError> {
@@ -71,7 +71,7 @@ impl Source {
         if self.random.below(30) > 0 {
             return spoiled_reset(self.heap, ranges, &mut self.random);
         }
-        reset(self.heap, ranges.as_slice(), ranges.as_slice())
+        reset_to(self.heap, ranges.as_slice())
     }
 
     fn ranges(&mut self) -> Result<Vec<Range>, AllocError> {
