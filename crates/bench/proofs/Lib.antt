@@ -1,1 +1,1 @@
-mod Lined
+mod Deciding

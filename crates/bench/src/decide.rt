@@ -27,7 +27,7 @@ fn all_sized(sizes: &[Size]) -> bool
 }
 
 // The lines of the ranges in that direction, and no bounds.
-#[tactic(auto, using(crate::proofs::Lined::lined_by_reset))]
+#[tactic(auto, using(crate::proofs::Deciding::lined_by_reset))]
 fn reset<T: Axis, P: Axis>(
     heap: Global,
     axes: &mut Axes<T, P>,
