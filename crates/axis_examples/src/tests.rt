@@ -40,35 +40,25 @@ fn ninety<A: Axis>(rt: &impl Abort, axis: &mut A) -> Result<(), Fail> {
         axis.put(bound(1, 2, 19 - k / 5))?;
     }
     assert_eq!(rt; axis.count(), 90);
-    match axis.put(bound(1, 2, 19)) {
-        Ok(()) => Err(Fail::new("a bound more than the axis holds")),
-        Err(fault) => {
-            assert_eq!(rt; fault.number(), 5);
-            Ok(())
-        },
-    }
+    let refused = axis.put(bound(1, 2, 19)).map_err(AxisFault::number);
+    assert_eq!(rt; refused, Err(5));
+    Ok(())
+}
+
+// More than the pair that the bound named.
+fn around<A: Axis>(axis: &A) -> Result<[i16; 3], AxisFault> {
+    [(1, 3), (3, 0), (0, 3)].try_map(|(p, q)| axis.tightest(p, q))
 }
 
 // More than the pair that the bound named is as it was.
 fn back<A: Axis>(rt: &impl Abort, axis: &mut A) -> Result<(), Fail> {
     three_lines(axis)?;
     axis.put(bound(1, 2, -3))?;
-    let before = (
-        axis.tightest(1, 3)?,
-        axis.tightest(3, 0)?,
-        axis.tightest(0, 3)?,
-    );
+    let before = around(axis)?;
     axis.put(bound(2, 3, -3))?;
-    assert_ne!(rt; axis.tightest(0, 3)?, before.2);
+    assert_ne!(rt; axis.tightest(0, 3)?, before[2]);
     axis.back()?;
-    assert_eq!(rt;
-        (
-            axis.tightest(1, 3)?,
-            axis.tightest(3, 0)?,
-            axis.tightest(0, 3)?,
-        ),
-        before
-    );
+    assert_eq!(rt; around(axis)?, before);
     assert_eq!(rt; axis.tightest(2, 3)?, 19);
     Ok(())
 }

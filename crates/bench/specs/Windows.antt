@@ -1,7 +1,8 @@
 -- The ranges of boxes with windows.
 use Rattle.std.specs.Prelude.{◌≡◌, ℕ, ◌-◌, min, cond, List, map, ℤ, pos, negsuc, vec_items, nat_le}
 use Rattle.bench.specs.declared.packings.Packing.{Packing}
-use Rattle.bench.specs.declared.packings.Ranges.{Ranges}
+use Rattle.bench.specs.declared.packings.Range.{Range}
+use Rattle.bench.specs.declared.packings.Ranged.{Ranged}
 use Rattle.bench.specs.declared.packings.Stay.{Stay}
 
 -- a step or a metre as an axis has it; past 2880 it is one that every axis refuses
@@ -12,21 +13,19 @@ on_axis place = pos (min place 2881)
 abbrev pub last_place : ℕ → ℕ → ℤ
 last_place end extent = cond (nat_le extent end) (on_axis (end - extent)) (negsuc 0)
 
--- no box
-abbrev pub no_stay : Stay
-no_stay = record { size = record { steps = 0; metres = 0 }; first = 0; gone = 0 }
+abbrev pub window : ℕ → ℕ → ℕ → Range
+window first end extent = record { low = on_axis first; high = last_place end extent }
 
--- each box comes at its first step or later, and is gone in time
-pub record Timely (stays : List Stay) (steps : Ranges) : Type 0 where
-  pub lows : vec_items steps.lows ≡ map (λ s. on_axis s.first) stays
-  pub highs : vec_items steps.highs ≡ map (λ s. last_place s.gone s.size.steps) stays
+-- a box comes at its first step or later, and is gone in time
+abbrev pub timely : Stay → Range
+timely s = window s.first s.gone s.size.steps
 
--- each box begins at metre 0 or farther, and ends on the platform
-pub record Placed (platform : ℕ) (stays : List Stay) (metres : Ranges) : Type 0 where
-  pub lows : vec_items metres.lows ≡ map (λ _. pos 0) stays
-  pub highs : vec_items metres.highs ≡ map (λ s. last_place platform s.size.metres) stays
+-- a box begins at metre 0 or farther, and ends on the platform
+abbrev pub placed : ℕ → Stay → Range
+placed platform s = window 0 platform s.size.metres
 
-pub record Packs (platform : ℕ) (stays : List Stay) (packing : Packing) : Type 0 where
-  pub sizes : vec_items packing.sizes ≡ map (λ s. s.size) stays
-  pub steps : Timely stays packing.steps
-  pub metres : Placed platform stays packing.metres
+abbrev pub ranged : ℕ → Stay → Ranged
+ranged platform s = record { size = s.size; steps = timely s; metres = placed platform s }
+
+abbrev pub Packs : ℕ → List Stay → Packing → Type 0
+Packs platform stays packing = vec_items packing.boxes ≡ map (ranged platform) stays

@@ -4,39 +4,26 @@ use crate::packings::{Packing, Stay};
 use axis::Axis;
 use list_axis::ListAxis;
 use matrix_axis::MatrixAxis;
+use moves::Axes;
 use std::alloc::{AllocError, Global};
 use std::time::Instant;
-
-#[derive(Drop)]
-struct Axes<A> {
-    time: A,
-    platform: A,
-}
 
 #[derive(Drop)]
 pub struct Bench<'a> {
     rt: &'a HostRuntime,
     timed: bool,
-    matrix: Axes<MatrixAxis>,
-    list: Axes<ListAxis>,
+    matrix: Axes<MatrixAxis, MatrixAxis>,
+    list: Axes<ListAxis, ListAxis>,
 }
 
 impl<'a> Bench<'a> {
     pub fn new(rt: &'a HostRuntime, timed: bool) -> Result<Bench<'a>, AllocError> {
         let heap = rt.alloc();
-        let matrix = Axes {
-            time: MatrixAxis::new(heap)?,
-            platform: MatrixAxis::new(heap)?,
-        };
-        let list = Axes {
-            time: ListAxis::new(heap)?,
-            platform: ListAxis::new(heap)?,
-        };
         Ok(Bench {
             rt,
             timed,
-            matrix,
-            list,
+            matrix: Axes::new(MatrixAxis::new(heap)?, MatrixAxis::new(heap)?),
+            list: Axes::new(ListAxis::new(heap)?, ListAxis::new(heap)?),
         })
     }
 
@@ -54,18 +41,19 @@ impl<'a> Bench<'a> {
 }
 
 // Ends the line: plan or none, how many words were tried, and the seconds where they are asked for.
-fn report<A: Axis>(
+fn report<T: Axis, P: Axis>(
     rt: &HostRuntime,
     timed: bool,
-    axes: &mut Axes<A>,
+    axes: &mut Axes<T, P>,
     packing: &Packing,
 ) -> anyhow::Result<()> {
     let start = Instant::now(rt)?;
-    let outcome = decide(&mut axes.time, &mut axes.platform, packing)?;
+    let answer = decide(rt.alloc(), axes, packing)?;
     let seconds = start.elapsed(rt)?.as_secs_f64();
-    let answer = if outcome.found { "plan" } else { "none" };
-    let tries = outcome.tries;
-    print!(rt; "{answer}, {tries} tries")?;
+    match answer {
+        Ok(tries) => print!(rt; "plan, {tries} tries")?,
+        Err(none) => print!(rt; "none, {} tries", none.tries)?,
+    }
     if timed {
         print!(rt; ", {seconds:.6} seconds")?;
     }

@@ -1,64 +1,63 @@
 // Decides a packing on two axes of any kind.
-ghost use Rattle.std.specs.Prelude.{◌≡◌, ◌≤◌, true, IfOk, vec_len, OnOk};
+ghost use Rattle.std.specs.Prelude.{◌≡◌, ◌≤◌, true, IfOk, OnOk, vec_len};
 ghost use Rattle.boxes.specs.Overlaps.{Sized};
 ghost use Rattle.bench.specs.Extents.{GoodSize};
-ghost use Rattle.bench.specs.Decided.{axis_of, Decided};
+ghost use Rattle.bench.specs.Ranges.{lined};
+ghost use Rattle.bench.specs.Decided.{Decided};
 
-use crate::packings::{Packing, Ranges};
-use anyhow::anyhow;
-use axis::{Axis, AxisFault};
-use boxes::{Place, Size};
-use packing::{Outcome, pack};
-use stack::Blank;
+use crate::packings::Packing;
+use anyhow::ensure;
+use axis::Axis;
+use boxes::{Direction, Place, Size};
+use moves::Axes;
+use packing::{NoArrangement, pack};
+use stack::{Blank, Trial};
+use std::alloc::Global;
 
-fn is_sized(size: Size) -> bool
-    ensures { result ≡ true → GoodSize size }
+fn is_sized(size: &Size) -> bool
+    ensures { result ≡ true → GoodSize size.now }
 {
-    1 <= size.steps && size.steps <= 2880 && 1 <= size.metres && size.metres <= 2880
+    (1..=2880).contains(&size.steps) && (1..=2880).contains(&size.metres)
 }
 
 fn all_sized(sizes: &[Size]) -> bool
     ensures { result ≡ true → Sized sizes.now }
 {
-    for size in sizes {
-        if !is_sized(*size) {
-            return false;
-        }
-    }
-    true
+    sizes.iter().all(is_sized)
 }
 
-// The lines of the ranges, and no bounds.
-fn reset<A: Axis>(axis: &mut A, ranges: &Ranges) -> Result<(), AxisFault>
-    ensures after { OnOk result (A.means axis.new ≡ axis_of ranges.now) }
-    ensures few { OnOk result (vec_len ranges.now.lows ≤ 12) }
+// The lines of the ranges in that direction, and no bounds.
+#[tactic(auto, using(crate::proofs::Deciding::lined_by_reset))]
+fn reset<T: Axis, P: Axis>(
+    heap: Global,
+    axes: &mut Axes<T, P>,
+    direction: Direction,
+    packing: &Packing,
+) -> anyhow::Result<()>
+    ensures after { OnOk result (axes.new ≡ lined direction packing.now.boxes.items axes.old) }
+    ensures few { OnOk result (vec_len packing.now.boxes ≤ 12) }
 {
-    axis.reset(ranges.lows.as_slice(), ranges.highs.as_slice())
+    let lows = packing.lows(heap, direction)?;
+    let highs = packing.highs(heap, direction)?;
+    axes.reset(direction, lows.as_slice(), highs.as_slice())?;
+    Ok(())
 }
 
 pub fn decide<T: Axis, P: Axis>(
-    time: &mut T,
-    platform: &mut P,
+    heap: Global,
+    axes: &mut Axes<T, P>,
     packing: &Packing,
-) -> anyhow::Result<Outcome>
-    ensures { IfOk result (λ o. Decided packing.now o.found) }
+) -> anyhow::Result<Result<u64, NoArrangement>>
+    ensures { IfOk result (λ answer. Decided packing.now answer) }
 {
-    if !all_sized(packing.sizes.as_slice()) {
-        return Err(anyhow!("a box has an extent that is not from 1 to 2880"));
-    }
-    let boxes = packing.sizes.len();
-    if packing.steps.lows.len() != boxes || packing.metres.lows.len() != boxes {
-        return Err(anyhow!("not every box has its ranges"));
-    }
-    reset(time, &packing.steps)?;
-    reset(platform, &packing.metres)?;
+    let sizes = packing.sizes(heap)?;
+    ensure!(
+        all_sized(sizes.as_slice()),
+        "a box has an extent that is not from 1 to 2880"
+    );
+    reset(heap, axes, Direction::Time, packing)?;
+    reset(heap, axes, Direction::Platform, packing)?;
     let mut places = [Place { step: 0, metre: 0 }; 12];
-    let mut trials = [<stack::elements::Trial as Blank>::blank(); 66];
-    Ok(pack(
-        time,
-        platform,
-        packing.sizes.as_slice(),
-        &mut places,
-        &mut trials,
-    ))
+    let mut trials = [Trial::blank(); 66];
+    Ok(pack(axes, sizes.as_slice(), &mut places, &mut trials))
 }

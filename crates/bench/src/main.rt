@@ -13,12 +13,7 @@ mod squares;
 mod tests;
 
 fn asks_for_time(rt: &HostRuntime) -> io::Result<bool> {
-    for word in env::args(rt)?.skip(1) {
-        if word.as_str() == "time" {
-            return Ok(true);
-        }
-    }
-    Ok(false)
+    Ok(env::args(rt)?.skip(1).any(|word| word.as_str() == "time"))
 }
 
 fn run(rt: &HostRuntime) -> anyhow::Result<()> {

@@ -1,8 +1,9 @@
 // Packings: boxes with windows in a span of steps by a platform of metres, as sizes and ranges.
 ghost use Rattle.std.specs.Prelude.{◌≡◌, map, IfOk};
-ghost use Rattle.bench.specs.Windows.{on_axis, last_place, Timely, Placed, Packs};
+ghost use Rattle.bench.specs.Ranges.{range_of};
+ghost use Rattle.bench.specs.Windows.{on_axis, last_place, window, ranged, Packs};
 
-use boxes::Size;
+use boxes::{Direction, Size};
 use std::alloc::{AllocError, Global};
 
 // A box that comes at the step `first` or later and is gone by the step `gone`.
@@ -13,18 +14,24 @@ pub struct Stay {
     pub gone: u16,
 }
 
-#[derive(Drop)]
-pub struct Ranges {
-    pub lows: Vec<i16>,
-    pub highs: Vec<i16>,
+// From the low to the high.
+#[derive(Clone, Copy)]
+pub struct Range {
+    pub low: i16,
+    pub high: i16,
 }
 
-// Each box has a size, the steps at which it may come, and the metres at which it may begin.
+// A box with the steps at which it may come, and the metres at which it may begin.
+#[derive(Clone, Copy)]
+pub struct Ranged {
+    pub size: Size,
+    pub steps: Range,
+    pub metres: Range,
+}
+
 #[derive(Drop)]
 pub struct Packing {
-    pub sizes: Vec<Size>,
-    pub steps: Ranges,
-    pub metres: Ranges,
+    pub boxes: Vec<Ranged>,
 }
 
 // A step or a metre as an axis has it; every axis refuses those past 2880.
@@ -38,56 +45,75 @@ fn on_axis(place: u16) -> i16
 fn last_place(end: u16, extent: u16) -> i16
     ensures { result ≡ last_place end extent }
 {
-    if extent > end {
-        return -1;
-    }
-    on_axis(end - extent)
+    end.checked_sub(extent).map_or(-1, on_axis)
 }
 
-// The steps at which the boxes may come.
-fn steps_of(heap: Global, stays: &[Stay]) -> Result<Ranges, AllocError>
-    ensures { IfOk result (λ x. Timely stays.now x) }
+// From the first place to the last.
+fn window(first: u16, end: u16, extent: u16) -> Range
+    ensures { result ≡ window first end extent }
 {
-    let mut lows = Vec::new(heap);
-    let mut highs = Vec::new(heap);
-    for stay in stays {
-        lows.push(on_axis(stay.first))?;
-        highs.push(last_place(stay.gone, stay.size.steps))?;
+    Range {
+        low: on_axis(first),
+        high: last_place(end, extent),
     }
-    Ok(Ranges { lows, highs })
 }
 
-// The metres at which they may begin.
-fn metres_of(heap: Global, stays: &[Stay], platform: u16) -> Result<Ranges, AllocError>
-    ensures { IfOk result (λ x. Placed platform stays.now x) }
-{
-    let mut lows = Vec::new(heap);
-    let mut highs = Vec::new(heap);
-    for stay in stays {
-        lows.push(0)?;
-        highs.push(last_place(platform, stay.size.metres))?;
+impl Stay {
+    fn ranged(&self, platform: u16) -> Ranged
+        ensures { result ≡ ranged platform self.now }
+    {
+        Ranged {
+            size: self.size,
+            steps: window(self.first, self.gone, self.size.steps),
+            metres: window(0, platform, self.size.metres),
+        }
     }
-    Ok(Ranges { lows, highs })
 }
 
-fn sizes_of(heap: Global, stays: &[Stay]) -> Result<Vec<Size>, AllocError>
-    ensures { IfOk result (λ x. x.items ≡ map (λ s. s.size) stays.now) }
-{
-    let mut sizes = Vec::new(heap);
-    for stay in stays {
-        sizes.push(stay.size)?;
+impl Ranged {
+    pub fn range(&self, direction: Direction) -> Range
+        ensures { result ≡ range_of direction self.now }
+    {
+        match direction {
+            Direction::Time => self.steps,
+            Direction::Platform => self.metres,
+        }
     }
-    Ok(sizes)
 }
 
 impl Packing {
     pub fn new(heap: Global, stays: &[Stay], platform: u16) -> Result<Packing, AllocError>
         ensures { IfOk result (λ x. Packs platform stays.now x) }
     {
-        Ok(Packing {
-            sizes: sizes_of(heap, stays)?,
-            steps: steps_of(heap, stays)?,
-            metres: metres_of(heap, stays, platform)?,
-        })
+        let boxes = stays
+            .iter()
+            .map(|stay| stay.ranged(platform))
+            .collect(heap)?;
+        Ok(Packing { boxes })
+    }
+
+    pub fn sizes(&self, heap: Global) -> Result<Vec<Size>, AllocError>
+        ensures { IfOk result (λ x. x.items ≡ map (λ b. b.size) self.now.boxes.items) }
+    {
+        self.boxes.iter().map(|one| one.size).collect(heap)
+    }
+
+    // Kept parallel with the highs: an axis takes two lists, and first refuses those that are not equally long.
+    pub fn lows(&self, heap: Global, direction: Direction) -> Result<Vec<i16>, AllocError>
+        ensures { IfOk result (λ x. x.items ≡ map (λ b. (range_of direction b).low) self.now.boxes.items) }
+    {
+        self.boxes
+            .iter()
+            .map(|one| one.range(direction).low)
+            .collect(heap)
+    }
+
+    pub fn highs(&self, heap: Global, direction: Direction) -> Result<Vec<i16>, AllocError>
+        ensures { IfOk result (λ x. x.items ≡ map (λ b. (range_of direction b).high) self.now.boxes.items) }
+    {
+        self.boxes
+            .iter()
+            .map(|one| one.range(direction).high)
+            .collect(heap)
     }
 }

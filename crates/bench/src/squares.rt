@@ -11,7 +11,13 @@ const NINE: [(&str, [u16; 9]); 3] = [
     ("nine squares shuffled", [9, 15, 1, 18, 7, 14, 4, 10, 8]),
 ];
 
+const NINE_ROOM: Size = Size {
+    steps: 33,
+    metres: 32,
+};
+
 // So many squares, and the least box of so many steps by so many metres that holds them.
+// Kept as tuples: a row is taken apart by names where it is read, and a box written out takes four lines.
 const LEAST: [(u16, u16, u16); 7] = [
     (6, 9, 11),
     (7, 7, 22),
@@ -23,64 +29,62 @@ const LEAST: [(u16, u16, u16); 7] = [
 ];
 
 fn squares(heap: Global, sides: &[u16], steps: u16) -> Result<Vec<Stay>, AllocError> {
-    let mut stays = Vec::new(heap);
-    for side in sides {
-        let size = Size {
-            steps: *side,
-            metres: *side,
-        };
-        stays.push(Stay {
-            size,
+    sides
+        .iter()
+        .map(|side| Stay {
+            size: Size {
+                steps: *side,
+                metres: *side,
+            },
             first: 0,
             gone: steps,
-        })?;
-    }
-    Ok(stays)
+        })
+        .collect(heap)
 }
 
-fn sides_to(heap: Global, largest: u16) -> Result<Vec<u16>, AllocError> {
-    let mut sides = Vec::new(heap);
-    for below in 0..largest {
-        sides.push(below + 1)?;
-    }
-    Ok(sides)
-}
-
-fn decide(
-    bench: &mut Bench<'_>,
-    name: &str,
-    sides: &[u16],
-    steps: u16,
-    metres: u16,
-) -> anyhow::Result<()> {
+fn decide(bench: &mut Bench<'_>, name: &str, sides: &[u16], room: Size) -> anyhow::Result<()> {
+    let Size { steps, metres } = room;
     let stays = squares(bench.heap(), sides, steps)?;
     let name = format!(in bench.heap(); "{name} in {steps} by {metres}")?;
     bench.decide(name.as_str(), stays.as_slice(), metres)
 }
 
+// A metre less on the platform.
+fn narrower(room: Size) -> Size {
+    Size {
+        metres: room.metres.saturating_sub(1),
+        ..room
+    }
+}
+
 pub fn nine_squares(bench: &mut Bench<'_>) -> anyhow::Result<()> {
     for (name, sides) in NINE {
-        decide(bench, name, &sides, 33, 32)?;
-        decide(bench, name, &sides, 33, 31)?;
+        decide(bench, name, &sides, NINE_ROOM)?;
+        decide(bench, name, &sides, narrower(NINE_ROOM))?;
     }
     Ok(())
 }
 
 // The squares of sides 1 to n.
-fn decide_to(bench: &mut Bench<'_>, n: u16, steps: u16, metres: u16) -> anyhow::Result<()> {
-    let sides = sides_to(bench.heap(), n)?;
+fn decide_to(bench: &mut Bench<'_>, n: u16, room: Size) -> anyhow::Result<()> {
+    let sides: Vec<u16> = (1..=n).collect(bench.heap())?;
     let name = format!(in bench.heap(); "squares 1 to {n}")?;
-    decide(bench, name.as_str(), sides.as_slice(), steps, metres)
+    decide(bench, name.as_str(), sides.as_slice(), room)
 }
 
 pub fn least_boxes(bench: &mut Bench<'_>) -> anyhow::Result<()> {
     for (n, steps, metres) in LEAST {
-        decide_to(bench, n, steps, metres)?;
-        decide_to(bench, n, steps, metres.saturating_sub(1))?;
+        let room = Size { steps, metres };
+        decide_to(bench, n, room)?;
+        decide_to(bench, n, narrower(room))?;
     }
     Ok(())
 }
 
 pub fn twelve_squares(bench: &mut Bench<'_>) -> anyhow::Result<()> {
-    decide_to(bench, 12, 31, 21)
+    let room = Size {
+        steps: 31,
+        metres: 21,
+    };
+    decide_to(bench, 12, room)
 }

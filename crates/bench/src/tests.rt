@@ -4,6 +4,7 @@ use crate::packings::{Packing, Stay};
 use boxes::Size;
 use list_axis::ListAxis;
 use matrix_axis::MatrixAxis;
+use moves::Axes;
 use std::alloc::Global;
 use std::test::Fail;
 
@@ -20,9 +21,8 @@ fn stay(first: u16, gone: u16) -> Stay {
 
 fn fits(heap: Global, stays: &[Stay], platform: u16) -> Result<bool, Fail> {
     let packing = Packing::new(heap, stays, platform)?;
-    let mut time = MatrixAxis::new(heap)?;
-    let mut metres = ListAxis::new(heap)?;
-    Ok(decide(&mut time, &mut metres, &packing)?.found)
+    let mut axes = Axes::new(MatrixAxis::new(heap)?, ListAxis::new(heap)?);
+    Ok(decide(heap, &mut axes, &packing)?.is_ok())
 }
 
 #[test]

@@ -1,11 +1,12 @@
-// The calls of an axis and their answers as values, so that one list of calls runs on every side.
-ghost use Rattle.std.specs.Prelude.{◌≡◌, ◌/◌, ◌%◌, Ok, Err};
-ghost use Rattle.axis.specs.Asks.{number};
+// The calls of an axis and what they tell as values, so that one list of calls runs on every side.
+ghost use Rattle.std.specs.Prelude.{◌≡◌, ◌<◌, slice_index_or};
 
 use axis::{Axis, AxisFault, Bound};
+use std::array;
 
 #[derive(Drop)]
 pub enum Call {
+    // Kept parallel: an axis takes two lists, and first refuses those that are not equally long.
     Reset { lows: Vec<i16>, highs: Vec<i16> },
     Put(Bound),
     Back,
@@ -13,48 +14,40 @@ pub enum Call {
     Count,
 }
 
+// What an accepted call tells.
 #[derive(Clone, Copy, PartialEq, Eq)]
-pub enum Answer {
+pub enum Told {
     Done,
     Difference(i32),
     Count(usize),
-    Refused(u8),
 }
 
-// How many pairs of the lines 0 to 12 there are.
-pub const PAIRS: u8 = 169;
+pub type Answer = Result<Told, AxisFault>;
 
-// The pairs in their order: (0, 0), (0, 1) .. (12, 12).
-pub fn tightest_of_pair(k: u8) -> Call
-    ensures { result ≡ Call.Tightest (k / 13) (k % 13) }
+// The lines that an axis may have at most, with line 0.
+pub const LINES: usize = 13;
+
+// Line 0, and then 1, 2 .. 12.
+pub fn all_lines() -> [u8; LINES]
+    ensures { (p : _) → p < 13 → slice_index_or result p 0 ≡ p }
 {
-    Call::Tightest(k / 13, k % 13)
+    array::from_fn(|p| p as u8)
 }
 
-fn done(res: Result<(), AxisFault>) -> Answer
-    ensures { elim res [ Ok _ ↦ result ≡ Answer.Done | Err f ↦ result ≡ Answer.Refused (number f) ] }
+// From line p to each line: (p, 0), (p, 1) .. (p, 12).
+pub fn tightests_from(p: u8) -> [Call; LINES]
+    ensures { (q : _) → q < 13 → slice_index_or result q Call.Back ≡ Call.Tightest p q }
 {
-    match res {
-        Ok(()) => Answer::Done,
-        Err(fault) => Answer::Refused(fault.number()),
-    }
-}
-
-fn difference(res: Result<i16, AxisFault>) -> Answer
-    ensures { elim res [ Ok t ↦ result ≡ Answer.Difference t | Err f ↦ result ≡ Answer.Refused (number f) ] }
-{
-    match res {
-        Ok(difference) => Answer::Difference(i32::from(difference)),
-        Err(fault) => Answer::Refused(fault.number()),
-    }
+    all_lines().map(|q| Call::Tightest(p, q))
 }
 
 pub fn perform<A: Axis>(axis: &mut A, call: &Call) -> Answer {
     match call {
-        Call::Reset { lows, highs } => done(axis.reset(lows.as_slice(), highs.as_slice())),
-        Call::Put(bound) => done(axis.put(*bound)),
-        Call::Back => done(axis.back()),
-        Call::Tightest(p, q) => difference(axis.tightest(*p, *q)),
-        Call::Count => Answer::Count(axis.count()),
+        Call::Reset { lows, highs } => axis.reset(lows.as_slice(), highs.as_slice())?,
+        Call::Put(bound) => axis.put(*bound)?,
+        Call::Back => axis.back()?,
+        Call::Tightest(p, q) => return Ok(Told::Difference(i32::from(axis.tightest(*p, *q)?))),
+        Call::Count => return Ok(Told::Count(axis.count())),
     }
+    Ok(Told::Done)
 }

@@ -3,7 +3,7 @@ ghost use Rattle.std.specs.Prelude.{◌≤◌};
 
 use crate::random::Random;
 
-#[derive(Drop)]
+#[derive(Clone, Copy)]
 pub struct Manner {
     pub lines: u8,
     // how far a range reaches from the hidden placement at most

@@ -1,5 +1,6 @@
 // Pseudo-random numbers, the same on every run.
 ghost use Rattle.std.specs.Prelude.{◌<◌};
+ghost use Rattle.std.specs.List.{ContainsAt};
 
 #[derive(Drop)]
 pub struct Random {
@@ -31,5 +32,13 @@ impl Random {
     {
         let x = self.step() >> 32;
         (x % u64::from(n)) as u16
+    }
+
+    // One of the items.
+    pub fn pick<T: Copy, const N: usize>(&mut self, items: &[T; N]) -> T
+        requires { (0 < N) × (N < 65536) }
+        ensures { ContainsAt items.now result }
+    {
+        items[usize::from(self.below(N as u16))]
     }
 }

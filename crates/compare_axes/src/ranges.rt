@@ -1,78 +1,108 @@
-// The ranges of a reset: good ones around a placement, and spoiled ones.
-ghost use Rattle.std.specs.Prelude.{◌≡◌, ◌≤◌, length, IfOk, vec_len};
+// The resets: to good ranges around a placement, and to spoiled ones.
+ghost use Rattle.std.specs.Prelude.{◌≡◌, length, IfOk, vec_len};
 
-use crate::calls::Call;
+use crate::calls::{Call, LINES};
+use crate::manner::Manner;
 use crate::random::Random;
 use std::alloc::{AllocError, Global};
 
-// Ranges that no line may have.
-const BAD: [(i16, i16); 5] = [
-    (-1, 9),
-    (0, 2881),
-    (700, 699),
-    (2881, 2881),
-    (i16::MIN, i16::MAX),
-];
-
-#[derive(Drop)]
-pub struct Ranges {
-    lows: Vec<i16>,
-    highs: Vec<i16>,
+// The values of a line, from the low to the high.
+#[derive(Clone, Copy)]
+pub struct Range {
+    pub low: i16,
+    pub high: i16,
 }
 
-impl Ranges {
-    pub fn around(
-        heap: Global,
-        values: &[i16],
-        reach: u16,
-        random: &mut Random,
-    ) -> Result<Ranges, AllocError>
-        requires { reach ≤ 2880 }
-        ensures { IfOk result (λ x. (vec_len x.lows ≡ length values.now) × (vec_len x.highs ≡ length values.now)) }
-    {
-        let mut lows = Vec::new(heap);
-        let mut highs = Vec::new(heap);
-        for value in values {
-            let below = random.below(reach + 1) as i16;
-            let above = random.below(reach + 1) as i16;
-            lows.push(value.saturating_sub(below).max(0))?;
-            highs.push(value.saturating_add(above).min(2880))?;
-        }
-        Ok(Ranges { lows, highs })
-    }
+const ZERO: Range = Range { low: 0, high: 0 };
 
-    pub fn call(self) -> Call {
-        let Ranges { lows, highs } = self;
-        Call::Reset { lows, highs }
-    }
+const WIDEST: Range = Range { low: 0, high: 2880 };
 
-    pub fn spoil(&mut self, random: &mut Random) -> Result<(), AllocError> {
-        match random.below(4) {
-            0 => self.lows.push(0)?,
-            1 => self.highs.push(0)?,
-            2 => self.lengthen()?,
-            _ => self.spoil_one(random),
-        }
-        Ok(())
-    }
+// Ranges that no line may have.
+const BAD: [Range; 5] = [
+    Range { low: -1, high: 9 },
+    Range { low: 0, high: 2881 },
+    Range {
+        low: 700,
+        high: 699,
+    },
+    Range {
+        low: 2881,
+        high: 2881,
+    },
+    Range {
+        low: i16::MIN,
+        high: i16::MAX,
+    },
+];
 
-    // One line more than an axis may have.
-    fn lengthen(&mut self) -> Result<(), AllocError> {
-        for _ in self.lows.len()..13 {
-            self.lows.push(0)?;
-            self.highs.push(2880)?;
+impl Range {
+    fn around(value: i16, manner: &Manner, random: &mut Random) -> Range {
+        let below = random.below(manner.reach + 1) as i16;
+        let above = random.below(manner.reach + 1) as i16;
+        Range {
+            low: value.saturating_sub(below).max(0),
+            high: value.saturating_add(above).min(2880),
         }
-        Ok(())
     }
+}
 
-    fn spoil_one(&mut self, random: &mut Random) {
-        let place = random.below(12) as usize % self.lows.len().max(1);
-        let (low, high) = BAD[random.below(5) as usize];
-        if let Some(x) = self.lows.get_mut(place) {
-            *x = low;
-        }
-        if let Some(x) = self.highs.get_mut(place) {
-            *x = high;
-        }
+pub fn ranges_around(
+    heap: Global,
+    values: &[i16],
+    manner: &Manner,
+    random: &mut Random,
+) -> Result<Vec<Range>, AllocError>
+    ensures { IfOk result (λ x. vec_len x ≡ length values.now) }
+{
+    values
+        .iter()
+        .map(|value| Range::around(*value, manner, random))
+        .collect(heap)
+}
+
+pub fn reset_to(heap: Global, ranges: &[Range]) -> Result<Call, AllocError> {
+    reset_to_both(heap, ranges, ranges)
+}
+
+// The lows of some ranges and the highs of others, which need not be equally many.
+fn reset_to_both(heap: Global, lows: &[Range], highs: &[Range]) -> Result<Call, AllocError> {
+    Ok(Call::Reset {
+        lows: lows.iter().map(|range| range.low).collect(heap)?,
+        highs: highs.iter().map(|range| range.high).collect(heap)?,
+    })
+}
+
+pub fn spoiled_reset(
+    heap: Global,
+    mut ranges: Vec<Range>,
+    random: &mut Random,
+) -> Result<Call, AllocError> {
+    let lines = ranges.len();
+    match random.below(4) {
+        0 => {
+            ranges.push(ZERO)?;
+            reset_to_both(heap, ranges.as_slice(), &ranges[..lines])
+        },
+        1 => {
+            ranges.push(ZERO)?;
+            reset_to_both(heap, &ranges[..lines], ranges.as_slice())
+        },
+        // one line more than an axis may have
+        2 => {
+            ranges.resize(LINES, WIDEST)?;
+            reset_to(heap, ranges.as_slice())
+        },
+        _ => {
+            spoil_one(ranges.as_mut_slice(), random);
+            reset_to(heap, ranges.as_slice())
+        },
+    }
+}
+
+fn spoil_one(ranges: &mut [Range], random: &mut Random) {
+    let place = usize::from(random.below(12)) % ranges.len().max(1);
+    let bad = random.pick(&BAD);
+    if let Some(range) = ranges.get_mut(place) {
+        *range = bad;
     }
 }

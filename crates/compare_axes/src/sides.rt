@@ -1,17 +1,17 @@
 // The two axes and the model side by side, with the tally of what they answered.
-ghost use Rattle.std.specs.Prelude.{◌≡◌, IfOk, vec_len};
-
-use crate::calls::{Answer, Call, PAIRS, perform, tightest_of_pair};
+use crate::calls::{Answer, Call, LINES, Told, all_lines, perform, tightests_from};
 use crate::plain::Plain;
 use crate::tally::Tally;
-use axis::{Axis, Bound};
+use axis::{Axis, AxisFault, Bound};
 use list_axis::ListAxis;
 use matrix_axis::MatrixAxis;
 use std::alloc::{AllocError, Global};
 
+// From line p to line q in row p at place q.
+type Differences = [[Result<i16, AxisFault>; LINES]; LINES];
+
 #[derive(Drop)]
 pub struct Sides {
-    heap: Global,
     matrix: MatrixAxis,
     list: ListAxis,
     plain: Plain,
@@ -20,16 +20,11 @@ pub struct Sides {
 
 impl Sides {
     pub fn new(heap: Global) -> Result<Sides, AllocError> {
-        let matrix = MatrixAxis::new(heap)?;
-        let list = ListAxis::new(heap)?;
-        let plain = Plain::new(heap);
-        let tally = Tally::new();
         Ok(Sides {
-            heap,
-            matrix,
-            list,
-            plain,
-            tally,
+            matrix: MatrixAxis::new(heap)?,
+            list: ListAxis::new(heap)?,
+            plain: Plain::new(heap),
+            tally: Tally::default(),
         })
     }
 
@@ -40,40 +35,32 @@ impl Sides {
         let plain = self.plain.perform(call)?;
         let same = matrix == plain && list == plain;
         self.tally.note(call, plain, same);
-        Ok(plain == Answer::Done)
+        Ok(plain == Ok(Told::Done))
     }
 
     pub fn compare_all_pairs(&mut self) -> Result<(), AllocError> {
-        for k in 0..PAIRS {
-            self.compare(&tightest_of_pair(k))?;
+        for call in all_lines().into_iter().flat_map(tightests_from) {
+            self.compare(&call)?;
         }
         Ok(())
     }
 
     // A bound that is put and taken back leaves every difference as it was.
     pub fn put_and_back(&mut self, bound: Bound) -> Result<(), AllocError> {
-        let before = self.differences()?;
+        let before = self.differences();
         if self.compare(&Call::Put(bound))? {
             self.compare(&Call::Back)?;
-            let after = self.differences()?;
+            let after = self.differences();
             self.tally.note_undone(before == after);
         }
         Ok(())
     }
 
-    fn differences(&mut self) -> Result<(Vec<Answer>, Vec<Answer>), AllocError> {
-        let matrix = all_differences(self.heap, &mut self.matrix)?;
-        let list = all_differences(self.heap, &mut self.list)?;
-        Ok((matrix, list))
+    fn differences(&self) -> (Differences, Differences) {
+        (all_differences(&self.matrix), all_differences(&self.list))
     }
 }
 
-fn all_differences<A: Axis>(heap: Global, axis: &mut A) -> Result<Vec<Answer>, AllocError>
-    ensures { IfOk result (λ v. vec_len v ≡ 169) }
-{
-    let mut answers = Vec::new(heap);
-    for k in 0..PAIRS {
-        answers.push(perform(axis, &tightest_of_pair(k)))?;
-    }
-    Ok(answers)
+fn all_differences<A: Axis>(axis: &A) -> Differences {
+    all_lines().map(|p| all_lines().map(|q| axis.tightest(p, q)))
 }

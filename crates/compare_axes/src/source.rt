@@ -1,8 +1,8 @@
 // The source of the calls: mostly good ones around a hidden placement, and some that must be refused.
-use crate::calls::Call;
+use crate::calls::{Call, LINES};
 use crate::manner::Manner;
 use crate::random::Random;
-use crate::ranges::Ranges;
+use crate::ranges::{Range, ranges_around, reset_to, spoiled_reset};
 use axis::Bound;
 use std::alloc::{AllocError, Global};
 
@@ -15,7 +15,7 @@ pub struct Source {
     random: Random,
     manner: Manner,
     // the hidden placement, by line
-    values: [i16; 13],
+    values: [i16; LINES],
 }
 
 impl Source {
@@ -24,7 +24,7 @@ impl Source {
             heap,
             random: Random::new(20_240_229),
             manner: Manner::first(),
-            values: [0; 13],
+            values: [0; LINES],
         }
     }
 
@@ -33,7 +33,7 @@ impl Source {
         self.manner = Manner::draw(&mut self.random);
         draw_values(&mut self.random, &mut self.values);
         let ranges = self.ranges()?;
-        Ok(ranges.call())
+        reset_to(self.heap, ranges.as_slice())
     }
 
     pub fn next_call(&mut self) -> Result<Call, AllocError> {
@@ -67,20 +67,20 @@ impl Source {
 
     // Seldom a good one, so that many bounds come to stand.
     fn reset(&mut self) -> Result<Call, AllocError> {
-        let mut ranges = self.ranges()?;
+        let ranges = self.ranges()?;
         if self.random.below(30) > 0 {
-            ranges.spoil(&mut self.random)?;
+            return spoiled_reset(self.heap, ranges, &mut self.random);
         }
-        Ok(ranges.call())
+        reset_to(self.heap, ranges.as_slice())
     }
 
-    fn ranges(&mut self) -> Result<Ranges, AllocError> {
+    fn ranges(&mut self) -> Result<Vec<Range>, AllocError> {
         let values = self.values;
-        let lines = self.manner.lines as usize;
-        Ranges::around(
+        let manner = self.manner;
+        ranges_around(
             self.heap,
-            &values[1..lines + 1],
-            self.manner.reach,
+            &values[1..=usize::from(manner.lines)],
+            &manner,
             &mut self.random,
         )
     }
@@ -95,18 +95,14 @@ impl Source {
 
     // A line that is not there has no value.
     fn value(&self, line: u8) -> i16 {
-        if line < 13 {
-            self.values[line as usize]
-        } else {
-            0
-        }
+        self.values.get(usize::from(line)).copied().unwrap_or(0)
     }
 
     fn length(&mut self, p: u8, q: u8) -> i16 {
         let kept = self.value(p).saturating_sub(self.value(q));
         let slack = self.random.below(self.manner.slack + 1) as i16;
         if self.random.below(40) == 0 {
-            EDGES[self.random.below(6) as usize]
+            self.random.pick(&EDGES)
         } else if self.random.below(100) < self.manner.daring {
             kept.saturating_sub(slack).saturating_sub(1)
         } else {
@@ -116,7 +112,7 @@ impl Source {
 }
 
 // Line 0 stays at 0.
-fn draw_values(random: &mut Random, values: &mut [i16; 13]) {
+fn draw_values(random: &mut Random, values: &mut [i16; LINES]) {
     for value in values.iter_mut().skip(1) {
         *value = random.below(2881) as i16;
     }

@@ -4,7 +4,8 @@ ghost use Rattle.std.specs.Prelude.{◌≡◌, ◌+◌, ◌-◌, ◌^◌, min};
 use crate::calls::{Answer, Call};
 use std::fmt;
 
-#[derive(Drop)]
+// Kept as fields: a list of counters would need a number for each call, and its name, beside the call.
+#[derive(Default, Drop)]
 pub struct Tally {
     resets: u32,
     puts: u32,
@@ -18,19 +19,6 @@ pub struct Tally {
 }
 
 impl Tally {
-    pub fn new() -> Tally {
-        Tally {
-            resets: 0,
-            puts: 0,
-            backs: 0,
-            tightests: 0,
-            counts: 0,
-            refused: [0; 8],
-            undone: 0,
-            differed: 0,
-        }
-    }
-
     pub fn note(&mut self, call: &Call, answer: Answer, same: bool) {
         match call {
             Call::Reset { .. } => more(&mut self.resets),
@@ -50,10 +38,8 @@ impl Tally {
     }
 
     fn note_refusal(&mut self, answer: Answer) {
-        if let Answer::Refused(number) = answer {
-            if let Some(times) = self.refused.get_mut(number as usize) {
-                more(times);
-            }
+        if let Err(fault) = answer {
+            more(&mut self.refused[usize::from(fault.number())]);
         }
     }
 

@@ -1,5 +1,5 @@
 -- The worked task is accepted, and its numbers are these.
-use Rattle.std.proofs.Common.{◌≡◌, ℕ, zero, suc, ◌≤◌, List, [], ◌∷◌, ℤ, pos, neg_ℤ, ◌≤ℤ◌, Ok, Err, Result, refl, ap, ◌∙◌, subst, inl, inr, arith}
+use Rattle.std.proofs.Common.{◌≡◌, ℕ, zero, suc, ◌≤◌, List, [], ◌∷◌, ℤ, pos, neg_ℤ, ◌≤ℤ◌, Ok, Err, Result, refl, subst, inl, inr, arith, rules}
 use Rattle.std.proofs.lemmas.Int.{ints}
 use Rattle.axis.specs.declared.model.AxisFault.{AxisFault}
 use Rattle.axis.specs.Meaning.{Meaning, Remains}
@@ -8,7 +8,7 @@ use Rattle.axis.specs.Theory.{EarliestValue, LatestValue}
 use Rattle.axis.specs.Distance.{base, mend, distance, Open, Right}
 use Rattle.axis.proofs.Tables.{right_earliest}
 use Rattle.axis.proofs.Distances.{distance_right, distances_hold_lem, earliest_largest}
-use Rattle.platform.specs.Task.{worked, times}
+use Rattle.platform.specs.Task.{worked, times, Spanned}
 
 abbrev lows : List ℤ
 lows = worked.lows
@@ -20,16 +20,16 @@ abbrev bare : Meaning
 bare = record { lows = lows; highs = highs; bounds = [] }
 
 ordered : Ordered lows highs
-ordered zero h = (omega (arith, ints), (omega (arith, ints), omega (arith, ints)))
-ordered (suc zero) h = (omega (arith, ints), (omega (arith, ints), omega (arith, ints)))
-ordered (suc (suc zero)) h = (omega (arith, ints), (omega (arith, ints), omega (arith, ints)))
+ordered zero h = search (rules, ints)
+ordered (suc zero) h = search (rules, ints)
+ordered (suc (suc zero)) h = search (rules, ints)
 ordered (suc (suc (suc k))) h = absurd (omega arith)
 
 paired : Paired lows highs
 paired = (refl, omega arith)
 
 within : AllWithin 3 worked.bounds
-within b (zero, h, at) = subst (λ c. Named 3 c.p c.q × ((neg_ℤ (pos 4000) ≤ℤ c.d) × (c.d ≤ℤ pos 4000))) (at b) ((omega arith, omega arith), (omega (arith, ints), omega (arith, ints)))
+within b (zero, h, at) = subst (λ c. Named 3 c.p c.q × ((neg_ℤ (pos 4000) ≤ℤ c.d) × (c.d ≤ℤ pos 4000))) (at b) search (rules, ints)
 within b (suc k, h, at) = absurd (omega arith)
 
 opens : Open worked
@@ -67,13 +67,23 @@ latest_is r x h e =
       had = (e.had.0, (e.had.1.0, let z = e.had.1.0.above 0 (omega arith) in let u = e.had.1.0.below 0 (omega arith) in omega (arith, ints, e.had.1.1)));
     })
 
-pub span_is : (k : ℕ) (m : Meaning) (x : ℤ × ℤ) → k ≤ 3 → m ≡ worked → EarliestValue m k x.0 × LatestValue m k x.1 → x ≡ (neg_ℤ (distance worked 0 k), distance worked k 0)
+abbrev span : ℕ → ℤ × ℤ
+span k = (neg_ℤ (distance worked 0 k), distance worked k 0)
+
+span_is : (k : ℕ) (m : Meaning) (x : ℤ × ℤ) → k ≤ 3 → m ≡ worked → Spanned m k (Ok x) → x ≡ span k
 span_is k m x h e s =
-    let t = subst (λ m. EarliestValue m k x.0 × LatestValue m k x.1) e s in
+    let t = subst (λ m. Spanned m k (Ok x)) e s in
     let a = earliest_is k x.0 h t.0 in
     let b = latest_is k x.1 h t.1 in
-    ap {B = ℤ × ℤ} (λ u. (u, x.1)) a ∙ ap {B = ℤ × ℤ} (λ u. (neg_ℤ (distance worked 0 k), u)) b
+    λ i. (a i, b i)
 
-pub times_are : (neg_ℤ (distance worked 0 1), distance worked 1 0) ∷ (neg_ℤ (distance worked 0 2), distance worked 2 0) ∷ (neg_ℤ (distance worked 0 3), distance worked 3 0) ∷ [] ≡ times
+times_are : span 1 ∷ span 2 ∷ span 3 ∷ [] ≡ times
 unfolding base mend
 times_are = refl
+
+pub times_told : (m : Meaning) (x y z : ℤ × ℤ) → m ≡ worked → Spanned m 1 (Ok x) → Spanned m 2 (Ok y) → Spanned m 3 (Ok z) → x ∷ y ∷ z ∷ [] ≡ times
+times_told m x y z e s t u =
+    let a = span_is 1 m x (omega arith) e s in
+    let b = span_is 2 m y (omega arith) e t in
+    let c = span_is 3 m z (omega arith) e u in
+    cc times_are

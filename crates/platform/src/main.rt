@@ -8,7 +8,7 @@ mod task;
 
 use task::task;
 
-fn show(rt: &HostRuntime, name: &str, times: &[(i16, i16); 3]) -> anyhow::Result<()> {
+fn show(rt: &HostRuntime, name: &str, times: &[(i16, i16)]) -> anyhow::Result<()> {
     println!(rt; "{name}")?;
     for (k, (earliest, latest)) in times.iter().enumerate() {
         println!(rt; "line {} earliest {earliest} latest {latest}", k + 1)?;

@@ -6,6 +6,7 @@ ghost use Rattle.platform.specs.Task.{worked, times, Spanned};
 use axis::{Axis, AxisFault, Bound, earliest, latest};
 
 // Three lines with their ranges, and one bound.
+#[tactic(auto, using(crate::proofs::Worked::put_done))]
 fn set_up<A: Axis>(axis: &mut A) -> Result<(), AxisFault>
     ensures answer { result ≡ Ok tt }
     ensures after { A.means axis.new ≡ worked }
@@ -26,8 +27,6 @@ pub fn task<A: Axis>(axis: &mut A) -> Result<[(i16, i16); 3], AxisFault>
     ensures after { A.means axis.new ≡ worked }
 {
     set_up(axis)?;
-    let first = span(axis, 1)?;
-    let second = span(axis, 2)?;
-    let third = span(axis, 3)?;
-    Ok([first, second, third])
+    let [first, second, third] = [1, 2, 3].map(|line| span(axis, line));
+    Ok([first?, second?, third?])
 }
