@@ -51,7 +51,7 @@ impl Axis for MatrixAxis {
 
     ghost roomy = { ledger_roomy };
 
-    ghost valid = { λ a. ledger_valid a.ledger a.«open» };
+    ghost valid = { λ a. ledger_valid a.ledger a.open };
 
     fn reset(&mut self, lows: &[i16], highs: &[i16]) -> Result<(), AxisFault> {
         self.ledger.reset(lows, highs)?;

@@ -57,7 +57,7 @@ impl<T: Axis, P: Axis> Axes<T, P> {
     }
 
     pub fn put(&mut self, entry: Entry) -> Result<(), AxisFault>
-        ensures { PutOn entry.direction T.Axis.holds P.Axis.holds self.old entry.bound result self.new }
+        ensures { PutOn entry.direction T.Axis.MOST P.Axis.MOST self.old entry.bound result self.new }
     {
         match entry.direction {
             Direction::Time => self.time.put(entry.bound),
@@ -109,7 +109,7 @@ impl<T: Axis, P: Axis> Axes<T, P> {
     // How many bounds stand on the axis of that direction.
     pub fn count(&self, direction: Direction) -> usize
         ensures count { result ≡ length (along direction self.now).bounds }
-        ensures valid { BothValid T.Axis.holds P.Axis.holds self.now }
+        ensures valid { BothValid T.Axis.MOST P.Axis.MOST self.now }
     {
         match direction {
             Direction::Time => self.time.count(),

@@ -9,7 +9,7 @@ use trials::{Board, WORDS};
 // A place for every box and a word for every pair that has none yet, or nothing.
 #[cycle(attempt_descend_try_words)]
 pub fn descend<T: Axis, P: Axis>(board: &mut Board<'_, '_, T, P>) -> bool
-    requires ready { Ready T.Axis.holds P.Axis.holds board.old }
+    requires ready { Ready T.Axis.MOST P.Axis.MOST board.old }
     ensures found { Explored (Unarranged board.old) board.old board.new result }
     ensures same { Restored board.old board.new }
     ensures loans { SameLoans board.old board.new }
@@ -27,7 +27,7 @@ pub fn descend<T: Axis, P: Axis>(board: &mut Board<'_, '_, T, P>) -> bool
 // The four words for trial k, one after the other.
 #[cycle(attempt_descend_try_words)]
 fn try_words<T: Axis, P: Axis>(board: &mut Board<'_, '_, T, P>, k: usize) -> bool
-    requires ready { Ready T.Axis.holds P.Axis.holds board.old }
+    requires ready { Ready T.Axis.MOST P.Axis.MOST board.old }
     requires open { Open board.old k }
     ensures found { Explored (Unarranged board.old) board.old board.new result }
     ensures same { Restored board.old board.new }
@@ -44,7 +44,7 @@ fn try_words<T: Axis, P: Axis>(board: &mut Board<'_, '_, T, P>, k: usize) -> boo
 // One word for trial k, and what is below it.
 #[cycle(attempt_descend_try_words)]
 fn attempt<T: Axis, P: Axis>(board: &mut Board<'_, '_, T, P>, k: usize, word: Word) -> bool
-    requires ready { Ready T.Axis.holds P.Axis.holds board.old }
+    requires ready { Ready T.Axis.MOST P.Axis.MOST board.old }
     requires open { Open board.old k }
     ensures found { Explored (RefutedAt board.old k word) board.old board.new result }
     ensures same { Restored board.old board.new }

@@ -52,7 +52,7 @@ impl<'a, 't, T: Axis, P: Axis> Board<'a, 't, T, P> {
     ) -> Board<'a, 't, T, P>
         requires fits { Fits axes.old sizes.now places.old trials.old }
         requires trail { NoWords trail.old }
-        ensures ready { Ready T.Axis.holds P.Axis.holds result }
+        ensures ready { Ready T.Axis.MOST P.Axis.MOST result }
         ensures lent { OnLoan axes.entry places.entry trials.entry trail.entry result }
         ensures axes { result.axes.now ≡ axes.old }
         ensures sizes { result.sizes.now ≡ sizes.now }
@@ -107,9 +107,9 @@ impl<'a, 't, T: Axis, P: Axis> Board<'a, 't, T, P> {
 
     // Puts the bound of the word for trial k and notes the trial, or tells that no arrangement has the word.
     pub fn enter(&mut self, k: usize, word: Word) -> bool
-        requires ready { Ready T.Axis.holds P.Axis.holds self.old }
+        requires ready { Ready T.Axis.MOST P.Axis.MOST self.old }
         requires open { Open self.old k }
-        ensures after { Entered T.Axis.holds P.Axis.holds k word self.old self.new result }
+        ensures after { Entered T.Axis.MOST P.Axis.MOST k word self.old self.new result }
         ensures places { self.new.places.now ≡ self.old.places.now }
         ensures loans { SameLoans self.old self.new }
     {
@@ -158,7 +158,7 @@ impl<'a, 't, T: Axis, P: Axis> Board<'a, 't, T, P> {
 
     // Each box at its least place under the words so far.
     pub fn place_all(&mut self)
-        requires ready { Ready T.Axis.holds P.Axis.holds self.old }
+        requires ready { Ready T.Axis.MOST P.Axis.MOST self.old }
         ensures timely { Earliest self.old.axes.now.time (step_of self.new.places.now) }
         ensures nearest { Earliest self.old.axes.now.platform (metre_of self.new.places.now) }
         ensures for_each { length self.new.places.now ≡ length self.old.sizes.now }
