@@ -22,6 +22,7 @@ impl Ledger {
     }
 
     // New lines with these ranges, and no bounds.
+    // Kept two lists: the first question is whether they are equally long.
     pub fn reset(&mut self, lows: &[i16], highs: &[i16]) -> Result<(), AxisFault>
         ensures { Reset (means self.old) lows.now highs.now result (means self.new) }
     {

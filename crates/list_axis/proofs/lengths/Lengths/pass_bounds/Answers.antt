@@ -1,7 +1,5 @@
-use Rattle.std.proofs.Common.{pos, ◌∙◌, subst}
-use Rattle.std.proofs.lemmas.List.{take_all}
+use Rattle.std.proofs.Common.{pos}
 use Rattle.axis.specs.declared.model.Bound.{Bound}
-use Rattle.list_axis.specs.Rows.{BoundsKept}
 use Rattle.list_axis.proofs.Steps.{passed_both, passed_weaker, bounds_more, bound_edge}
 use Rattle.list_axis.proofs.lengths.Lengths.pass_bounds.Goals as goal
 
@@ -13,6 +11,3 @@ relax-changed-requires c = rw c.loop-bound.invariant.ledger (bound_edge c.args.s
 
 pub loop-bound-preserved : goal.loop-bound-preserved
 loop-bound-preserved c = passed_weaker _ (bounds_more _ _ blank c.loop-bound-test.true) (passed_both _ _ _ c.loop-bound.invariant c.relax-changed.ensures)
-
-pub returns : goal.returns
-returns c = passed_weaker _ (λ row k. subst (λ bs. BoundsKept bs row) (take_all _ _ c.loop-bound-test.false ∙ c.bounds-bound-items.ensures) k) c.loop-bound.invariant
