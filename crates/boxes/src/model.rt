@@ -1,4 +1,7 @@
 // A box's extent and place, and a bound on one of the two axes.
+ghost use Rattle.std.specs.Prelude.{◌≡◌};
+ghost use Rattle.boxes.specs.Overlaps.{in_direction};
+
 use axis::Bound;
 
 // A box lasts so many steps and is so many metres long.
@@ -6,6 +9,18 @@ use axis::Bound;
 pub struct Size {
     pub steps: u16,
     pub metres: u16,
+}
+
+impl Size {
+    // Its steps on the one axis, its metres on the other.
+    pub fn along(self, direction: Direction) -> u16
+        ensures { result ≡ in_direction self.steps self.metres direction }
+    {
+        match direction {
+            Direction::Time => self.steps,
+            Direction::Platform => self.metres,
+        }
+    }
 }
 
 // A box at this place holds the steps from `step` on and the metres from `metre` on.

@@ -1,6 +1,6 @@
 // The list of trials: every pair of boxes, in order.
-ghost use Rattle.std.specs.Prelude.{◌≡◌, ◌+◌, ◌-◌, ◌≤◌, ◌++◌, map, length, take, replicate};
-ghost use Rattle.boxes.specs.Order.{pairs, row, trial_order, untried, no_trial};
+ghost use Rattle.std.specs.Prelude.{◌≡◌, ◌+◌, ◌-◌, ◌≤◌, map, length, replicate};
+ghost use Rattle.boxes.specs.Order.{pairs, pairs_from, row as row_of, trial_order, untried, no_trial};
 
 use stack::{Blank, Trial};
 
@@ -19,32 +19,37 @@ pub fn lay_out(n: u8, trials: &mut [Trial])
     requires room { length trials.old ≡ pairs n }
     ensures { trials.new ≡ map untried (trial_order n) }
 {
-    let mut at = 0;
-    for i in 1..n {
-        at = lay_row(i, n, at, trials);
-    }
+    lay_rows(1, n, trials);
 }
 
-// Writes the pairs of box i with the boxes after it, from the place `at` on, and gives the place after them.
-fn lay_row(i: u8, n: u8, at: usize, trials: &mut [Trial]) -> usize
-    requires few { (i ≤ n) × (n ≤ 12) }
-    requires room { at + (n - i) ≤ length trials.old }
-    ensures next { result ≡ at + (n - i) }
-    ensures laid { take result trials.new ≡ take at trials.old ++ map untried (row i (n - i)) }
+// Writes the pairs of box i with the boxes after it, and then those of the boxes after it.
+fn lay_rows(i: u8, n: u8, trials: &mut [Trial])
+    requires few { n ≤ 12 }
+    requires room { length trials.old ≡ length (pairs_from i (n - i)) }
+    ensures { trials.new ≡ map untried (pairs_from i (n - i)) }
 {
-    let mut k = at;
-    for j in i + 1..n + 1 {
-        trials[k] = Trial { i, j, word: None };
-        k += 1;
+    if i >= n {
+        return;
     }
-    k
+    let (row, later) = trials.split_at_mut(usize::from(n - i));
+    lay_row(i, row);
+    lay_rows(i + 1, n, later);
+}
+
+// Writes the pairs of box i with the boxes after it.
+fn lay_row(i: u8, row: &mut [Trial])
+    requires few { i + length row.old ≤ 12 }
+    ensures { row.new ≡ map untried (row_of i (length row.old)) }
+{
+    for (k, trial) in row.iter_mut().enumerate() {
+        let j = i + 1 + k as u8;
+        *trial = Trial { i, j, word: None };
+    }
 }
 
 // Every record blank.
 pub fn clear(trials: &mut [Trial])
     ensures { trials.new ≡ replicate (length trials.old) no_trial }
 {
-    for k in 0..trials.len() {
-        trials[k] = <Trial as Blank>::blank();
-    }
+    trials.fill(<Trial as Blank>::blank());
 }

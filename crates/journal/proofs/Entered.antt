@@ -1,10 +1,13 @@
 -- The entries of one direction, and how many stand.
-use Rattle.std.proofs.Common.{◌≡◌, ℕ, ◌+◌, ◌-◌, ◌<◌, ◌≤◌, List, [], ◌∷◌, ◌++◌, length, get_or, take, sym, refl, ap, ◌∙◌, subst, arith}
-use Rattle.std.proofs.lemmas.List.{length-append, take_more, take_all}
+use Rattle.std.proofs.Common.{◌≡◌, ℕ, Bool, cond, ◌+◌, ◌<◌, ◌≤◌, List, [], ◌∷◌, ◌++◌, length, Some, None, Option, refl, ap, ◌∙◌, subst, arith}
+use Rattle.std.proofs.lemmas.List.{length-append}
+use denote.Enum.Bare.{sameb}
 use Rattle.axis.specs.declared.model.Bound.{Bound}
 use Rattle.boxes.specs.declared.model.Entry.{Entry}
 use Rattle.boxes.specs.declared.model.Direction.{Direction}
 use Rattle.boxes.specs.declared.model.Direction.TheVariants.{Time, Platform}
+use Rattle.boxes.specs.contracts.model.Direction.{the_type}
+use Rattle.held.specs.Newest.{Parted}
 use Rattle.journal.specs.Journal.{kept, bounds_on}
 
 kept_append : (d c : Direction) (b : Bound) (bs more : List Bound) → kept d c b (bs ++ more) ≡ kept d c b bs ++ more
@@ -56,32 +59,21 @@ push_room_on Platform es t p less = let h = count_both es in omega arith
 pub push_room : (es : List Entry) (e : Entry) → FewOn Time es → FewOn Platform es → length (bounds_on e.direction es) < 24 → length es < 48
 push_room es e t p less = push_room_on e.direction es t p less
 
--- the entries that are left when the newest ones go
-pub front_few : (d : Direction) (all es gone : List Entry) → all ≡ es ++ gone → FewOn d all → FewOn d es
-front_few d all es gone split few =
-    let m : length (bounds_on d all) ≡ length (bounds_on d es) + length (bounds_on d gone) = ap (λ xs. length (bounds_on d xs)) split ∙ ap length (bounds_append d es gone) ∙ length-append (bounds_on d es) _ in
+-- the entries that are left when the newest goes
+pub few_parted : (d : Direction) (all es : List Entry) (newest : Option Entry) → Parted all newest es → FewOn d all → FewOn d es
+few_parted d all es (Some e) split few =
+    let m : length (bounds_on d all) ≡ length (bounds_on d es) + length (kept d e.direction e.bound []) = ap (λ xs. length (bounds_on d xs)) split ∙ ap length (bounds_push d es e) ∙ length-append (bounds_on d es) _ in
     omega arith
+few_parted d all es None split few = rw split.1 (omega arith)
 
--- the newest entry stands behind those before it
-pub newest_split : (es : List Entry) (e : Entry) → 0 < length es → e ≡ get_or es (length es - 1) e → es ≡ take (length es - 1) es ++ e ∷ []
-newest_split es e some is =
-    let less : length es - 1 < length es = omega arith in
-    let n : length es - 1 + 1 ≡ length es = omega arith in
-    sym (take_all (length es) es (omega arith)) ∙ ap (λ k. take k es) (sym n) ∙ take_more es (length es - 1) e less ∙ ap (λ x. take (length es - 1) es ++ x ∷ []) (sym is)
+abbrev pub on : Direction → Entry → Bool
+on d e = sameb the_type e.direction d
 
-kept_one : (d c : Direction) (b : Bound) → length (kept d c b []) ≤ 1
-kept_one Time Time b = omega arith
-kept_one Time Platform b = omega arith
-kept_one Platform Time b = omega arith
-kept_one Platform Platform b = omega arith
+one_kept : (d c : Direction) (b : Bound) (bs : List Bound) → length (kept d c b bs) ≡ cond (sameb the_type c d) (1 + length bs) (length bs)
+one_kept Time Time b bs = omega arith
+one_kept Time Platform b bs = refl
+one_kept Platform Time b bs = refl
+one_kept Platform Platform b bs = omega arith
 
--- a count that goes through the entries
-pub count_more : (d : Direction) (es : List Entry) (i count next : ℕ) (x : Entry) → i < length es → next ≡ count + length (kept d (get_or es i x).direction (get_or es i x).bound [])
-    → (count ≡ length (bounds_on d (take i es))) × (count ≤ i) → (next ≡ length (bounds_on d (take (i + 1) es))) × (next ≤ i + 1)
-count_more d es i count next x less is so =
-    let e : length (bounds_on d (take (i + 1) es)) ≡ length (bounds_on d (take i es)) + length (kept d (get_or es i x).direction (get_or es i x).bound []) = ap (λ xs. length (bounds_on d xs)) (take_more es i x less) ∙ ap length (bounds_push d (take i es) (get_or es i x)) ∙ length-append (bounds_on d (take i es)) _ in
-    let one = kept_one d (get_or es i x).direction (get_or es i x).bound in
-    (omega arith, omega arith)
-
-pub count_all : (d : Direction) (es : List Entry) (i count : ℕ) → length es ≤ i → (count ≡ length (bounds_on d (take i es))) × (count ≤ i) → count ≡ length (bounds_on d es)
-count_all d es i count far so = so.0 ∙ ap (λ xs. length (bounds_on d xs)) (take_all i es far)
+pub one_on : (d : Direction) (e : Entry) (es : List Entry) → length (bounds_on d (e ∷ es)) ≡ cond (on d e) (1 + length (bounds_on d es)) (length (bounds_on d es))
+one_on d e es = one_kept d e.direction e.bound (bounds_on d es)

@@ -1,7 +1,5 @@
 -- What each call asks of the journal, in its order; the first question answered no gives the refusal.
-use Rattle.std.specs.Prelude.{ℕ, ◌+◌, ◌<◌, ◌≤◌, cond, ◌≢◌, List, [], ◌∷◌, ◌++◌, length, ℤ, Some, None, Ok, Err, Option, Result, ◌==◌}
-use Rattle.stack.specs.declared.elements.Word.{Word}
-use Rattle.stack.specs.declared.elements.Word.TheVariants.{Before, After, Nearer, Farther}
+use Rattle.std.specs.Prelude.{ℕ, ◌+◌, ◌<◌, ◌≤◌, ◌≢◌, List, [], ◌∷◌, ◌++◌, length, ℤ, Ok, Err, Result}
 use Rattle.axis.specs.Meaning.{with_bound, Remains}
 use Rattle.axis.specs.Questions.{Question, AllYes, FirstNo}
 use Rattle.axis.specs.Asks.{Named, InReach}
@@ -9,7 +7,6 @@ use Rattle.axis.specs.declared.model.AxisFault.TheVariants as fault
 use Rattle.faults.specs.declared.model.SheetFault.{SheetFault}
 use Rattle.faults.specs.declared.model.SheetFault.TheVariants as refuse
 use Rattle.boxes.specs.declared.model.Entry.{Entry}
-use Rattle.boxes.specs.declared.model.Direction.{Direction}
 use Rattle.boxes.specs.declared.model.Direction.TheVariants.{Time, Platform}
 use Rattle.boxes.specs.Order.{pairs}
 use Rattle.boxes.specs.Arranged.{Arrangement}
@@ -19,14 +16,6 @@ use Rattle.journal.specs.Journal.{Journal, bounds_on, axis_of, sizes_of}
 
 abbrev pub Asked : Type 1
 Asked = List {1} (Question SheetFault)
-
--- T is the time axis, P the platform axis
-abbrev pub direction_of : ℕ → Option Direction
-direction_of letter = cond (letter == 84) (Some Time) (cond (letter == 80) (Some Platform) None)
-
--- B, A, N and F
-abbrev pub word_of : ℕ → Option Word
-word_of letter = cond (letter == 66) (Some Before) (cond (letter == 65) (Some After) (cond (letter == 78) (Some Nearer) (cond (letter == 70) (Some Farther) None)))
 
 -- the questions on the stay of this number
 abbrev pub stay_asks : ℕ → ℕ → ℕ → Stay → Asked
@@ -76,6 +65,6 @@ settle_asks k places trials =
     ∷ []
 
 -- all questions are answered yes, or this is the refusal of the first that is not
-abbrev pub Answered : Asked → Result Unit SheetFault → Type 0
-Answered qs (Ok u) = AllYes qs
+abbrev pub Answered : {A : Type 0} → Asked → Result A SheetFault → Type 0
+Answered qs (Ok a) = AllYes qs
 Answered qs (Err f) = FirstNo qs f

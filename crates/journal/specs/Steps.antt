@@ -2,6 +2,7 @@
 use Rattle.std.specs.Prelude.{◌≡◌, ℕ, ◌<◌, List, [], ◌∷◌, length, ℤ, Some, None, Ok, Err, Option, Result}
 use Rattle.stack.specs.declared.elements.Word.{Word}
 use Rattle.stack.specs.declared.elements.Trial.{Trial}
+use Rattle.stack.specs.Letters.{word_of}
 use Rattle.axis.specs.Meaning.{Largest}
 use Rattle.axis.specs.Questions.{AllYes, FirstNo}
 use Rattle.axis.specs.Asks.{Named}
@@ -13,10 +14,11 @@ use Rattle.boxes.specs.declared.model.Place.{Place}
 use Rattle.boxes.specs.declared.model.Direction.{Direction}
 use Rattle.boxes.specs.declared.model.Direction.TheVariants.{Time, Platform}
 use Rattle.boxes.specs.Overlaps.{ruled}
+use Rattle.boxes.specs.Letters.{direction_of}
 use Rattle.boxes.specs.Arranged.{Arranged}
 use Rattle.journal.specs.declared.model.Stay.{Stay}
 use Rattle.journal.specs.Journal.{Journal, loaded, with_entry, without_newest, axis_of, sizes_of}
-use Rattle.journal.specs.Asks.{Asked, direction_of, word_of, load_asks, entry_asks, settle_asks, TwoStays}
+use Rattle.journal.specs.Asks.{Asked, load_asks, entry_asks, settle_asks, TwoStays}
 
 -- a call by its arguments; a buffer by how many records it has
 pub data Request : Type 0 where

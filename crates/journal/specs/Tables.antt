@@ -1,5 +1,5 @@
 -- The journal that the tables of a sheet hold, and the ranges of its lines.
-use Rattle.std.specs.Prelude.{◌≡◌, ℕ, ◌-◌, List, [], ◌∷◌, ◌++◌, map, length, take, Some, None, vec_items, Option}
+use Rattle.std.specs.Prelude.{◌≡◌, ℕ, ◌-◌, List, [], ◌∷◌, ◌++◌, map, length, take, Some, None, Option}
 use Rattle.axis.specs.Asks.{Paired, Ordered}
 use Rattle.boxes.specs.declared.model.Entry.{Entry}
 use Rattle.boxes.specs.declared.model.Direction.{Direction}
@@ -10,10 +10,10 @@ use Rattle.journal.specs.declared.tables.Ranges.{Ranges}
 use Rattle.journal.specs.Journal.{Journal, low_on, high_on}
 
 abbrev pub stays_in : Stays → List Stay
-stays_in s = vec_items s.items
+stays_in s = s.items
 
 abbrev pub told : Stays → Entries → Journal
-told s e = record { span = s.span; platform = s.platform; stays = stays_in s; entries = vec_items e.items }
+told s e = record { span = s.span; platform = s.platform; stays = stays_in s; entries = e.items }
 
 -- the newest entry, and those before it
 abbrev pub Newest : List Entry → Option Entry → Type 0
@@ -22,7 +22,7 @@ Newest es (Some e) = es ≡ take (length es - 1) es ++ (e ∷ [])
 
 -- the lows and highs of the stays' lines on an axis, as it takes them
 pub record Lined (d : Direction) (span platform : ℕ) (stays : List Stay) (r : Ranges) : Type 0 where
-  pub lows : vec_items r.lows ≡ map (low_on d) stays
-  pub highs : vec_items r.highs ≡ map (high_on d span platform) stays
-  pub paired : Paired (vec_items r.lows) (vec_items r.highs)
-  pub ordered : Ordered (vec_items r.lows) (vec_items r.highs)
+  pub lows : r.lows ≡ map (low_on d) stays
+  pub highs : r.highs ≡ map (high_on d span platform) stays
+  pub paired : Paired (r.lows) (r.highs)
+  pub ordered : Ordered (r.lows) (r.highs)

@@ -1,8 +1,9 @@
 // The questions of a load.
-ghost use Rattle.std.specs.Prelude.{◌≡◌, ℕ, ◌<◌, ◌≤◌, true, false, length, OnOk, slice_index_or};
+ghost use Rattle.std.specs.Prelude.{◌≡◌, ℕ, ◌<◌, ◌≤◌, true, false, length, IfOk, slice_index_or};
 ghost use Rattle.journal.specs.Stays.{GoodStay, no_stay};
 ghost use Rattle.journal.specs.Asks.{Answered, Extents, load_asks, stay_asks, stays_ask};
 
+use crate::loading::Loading;
 use crate::model::Stay;
 use faults::SheetFault;
 
@@ -10,20 +11,20 @@ fn in_range(span: u16, platform: u16) -> bool
     ensures yes { result ≡ true → Extents span platform }
     ensures no { result ≡ false → Extents span platform → ⊥ }
 {
-    1 <= span && span <= 2880 && 1 <= platform && platform <= 1000
+    (1..=2880).contains(&span) && (1..=1000).contains(&platform)
 }
 
 // Sums of two 16-bit numbers are taken at 32 bits, so that none wraps.
 fn check_stay(span: u16, platform: u16, number: u8, stay: Stay) -> Result<(), SheetFault>
     ensures { Answered (stay_asks span platform number stay) result }
 {
-    if stay.circuit < 1 || stay.circuit > 43200 {
+    if !(1..=43200).contains(&stay.circuit) {
         return Err(SheetFault::Circuit(number));
     }
     if stay.lead as u32 + stay.dwell as u32 > stay.circuit as u32 {
         return Err(SheetFault::Doors(number));
     }
-    if stay.metres < 1 || stay.metres > platform {
+    if !(1..=platform).contains(&stay.metres) {
         return Err(SheetFault::Length(number));
     }
     let gone = stay.closing(span);
@@ -45,9 +46,13 @@ fn check_stays(span: u16, platform: u16, stays: &[Stay]) -> Result<(), SheetFaul
 }
 
 // All that a load asks.
-pub fn check_load(span: u16, platform: u16, stays: &[Stay]) -> Result<(), SheetFault>
+pub fn check_load<'a>(
+    span: u16,
+    platform: u16,
+    stays: &'a [Stay],
+) -> Result<Loading<'a>, SheetFault>
     ensures asked { Answered (load_asks span platform stays.now) result }
-    ensures good { OnOk result ((k : ℕ) → k < length stays.now → GoodStay span platform (slice_index_or stays.now k no_stay)) }
+    ensures given { IfOk result (λ l. (l.span ≡ span) × (l.platform ≡ platform) × (l.stays.now ≡ stays.now)) }
 {
     if !in_range(span, platform) {
         return Err(SheetFault::Extents);
@@ -55,5 +60,10 @@ pub fn check_load(span: u16, platform: u16, stays: &[Stay]) -> Result<(), SheetF
     if stays.len() > 12 {
         return Err(SheetFault::Stays);
     }
-    check_stays(span, platform, stays)
+    check_stays(span, platform, stays)?;
+    Ok(Loading {
+        span,
+        platform,
+        stays,
+    })
 }

@@ -3,6 +3,7 @@
 
 mod asks;
 mod entries;
+mod loading;
 mod model;
 mod plans;
 mod ranges;
@@ -10,6 +11,7 @@ mod stays;
 mod tables;
 
 pub use asks::check_load;
+pub use loading::Loading;
 pub use model::{Stay, Window};
 pub use plans::plans_tell;
 pub use tables::{Entries, Ranges, Stays};

@@ -33,20 +33,14 @@ impl Stay {
     pub fn opening(self) -> u16
         ensures { result ≡ opens self.window }
     {
-        match self.window {
-            None => 0,
-            Some(window) => window.from,
-        }
+        self.window.map_or(0, |window| window.from)
     }
 
     // The step by which it is gone.
     pub fn closing(self, span: u16) -> u16
         ensures { result ≡ closes span self.window }
     {
-        match self.window {
-            None => span,
-            Some(window) => window.until,
-        }
+        self.window.map_or(span, |window| window.until)
     }
 
     // What it takes up on the sheet.

@@ -1,40 +1,36 @@
 // The tables of a sheet. Memory is reserved for all that they ever hold, so no call fails for want of it.
-ghost use Rattle.std.specs.Prelude.{◌≡◌, ◌≤◌, map, length, vec_capacity};
-ghost use Rattle.boxes.specs.declared.model.Direction.TheVariants.{Time as InTime, Platform as OnPlatform};
+ghost use Rattle.std.specs.Prelude.{◌≡◌, ◌≤◌, map, length};
+ghost use Rattle.boxes.specs.declared.model.Direction.{Direction as Directed};
 ghost use Rattle.boxes.specs.Overlaps.{Sized};
 ghost use Rattle.journal.specs.Stays.{size_of};
 ghost use Rattle.journal.specs.Journal.{bounds_on};
 
 use crate::model::Stay;
 use boxes::{Entry, Size};
+use held::Held;
 
 // The stays, and what each takes up.
 #[derive(Drop)]
 pub struct Stays {
     pub(crate) span: u16,
     pub(crate) platform: u16,
-    pub(crate) items: Vec<Stay>,
-    pub(crate) sizes: Vec<Size>,
-    ghost room: { (12 ≤ vec_capacity items) × (12 ≤ vec_capacity sizes) },
-    ghost few: { length items.items ≤ 12 },
-    ghost measured: { sizes.items ≡ map size_of items.items },
-    ghost sized: { Sized sizes.items },
+    pub(crate) items: Held<Stay, 12>,
+    pub(crate) sizes: Held<Size, 12>,
+    ghost few: { length items ≤ 12 },
+    ghost measured: { sizes ≡ map size_of items },
+    ghost sized: { Sized sizes },
 }
 
 // The entries, oldest first: at most 24 in each direction.
 #[derive(Drop)]
 pub struct Entries {
-    pub(crate) items: Vec<Entry>,
-    ghost room: { 48 ≤ vec_capacity items },
-    ghost few: { length items.items ≤ 48 },
-    ghost timely: { length (bounds_on InTime items.items) ≤ 24 },
-    ghost placed: { length (bounds_on OnPlatform items.items) ≤ 24 },
+    pub(crate) items: Held<Entry, 48>,
+    ghost few: { (d : Directed) → length (bounds_on d items) ≤ 24 },
 }
 
-// The ranges of the stays' lines on one axis.
+// The ranges of the stays' lines on one axis: two lists, since an axis asks whether its lows and highs are equally many.
 #[derive(Drop)]
 pub struct Ranges {
-    pub(crate) lows: Vec<i16>,
-    pub(crate) highs: Vec<i16>,
-    ghost room: { (12 ≤ vec_capacity lows) × (12 ≤ vec_capacity highs) },
+    pub(crate) lows: Held<i16, 12>,
+    pub(crate) highs: Held<i16, 12>,
 }

@@ -5,6 +5,9 @@ use Rattle.std.proofs.lemmas.List.{get_or-set_same, get_or-set_other, length-map
 use Rattle.boxes.specs.declared.model.Place.{Place}
 use Rattle.axis.specs.Meaning.{Meaning, lines, at_line, Largest, Earliest}
 use Rattle.axis.specs.Asks.{Valid}
+use Rattle.boxes.specs.Arranged.{step_of, metre_of}
+use Rattle.moves.specs.Meanings.{Meanings, BothValid}
+use Rattle.moves.specs.Settled.{nowhere, Settled}
 use Rattle.axis.specs.Theory.{EarliestValue}
 use Rattle.axis.proofs.Distances.{distances_hold_lem, earliest_largest, in_order}
 
@@ -31,15 +34,32 @@ module _ (most : ℕ) (m : Meaning) (valid : Valid most m) (vs : List ℤ) (size
         least = λ w p r h. let a = e.least w p r h in omega (arith, ints);
       }
 
--- one place more, by any of its numbers
-pub place_more : (P : ℕ → Place → Type 0) (ps : List Place) (k : ℕ) (p d : Place) → k < length ps → ((m : ℕ) → m < k → P m (get_or ps m d)) → P k p → (m : ℕ) → m < k + 1 → P m (get_or (set ps k p) m d)
-place_more P ps k p d h below here =
-    below_more (λ m. P m (get_or (set ps k p) m d)) k
-    (λ m l. let ne : m ≢ k = omega arith in subst (P m) (sym (get_or-set_other ps k m p d ne)) (below m l))
-    (subst (P k) (sym (get_or-set_same ps k p d h)) here)
+-- one box more is settled
+module _ (m : Meanings) (ps : List Place) (k : ℕ) (p : Place) where
+  more : (P : ℕ → Place → Type 0) → k < length ps → ((i : ℕ) → i < k → P i (get_or ps i nowhere)) → P k p → (i : ℕ) → i < k + 1 → P i (get_or (set ps k p) i nowhere)
+  more P h below here =
+      below_more (λ i. P i (get_or (set ps k p) i nowhere)) k
+      (λ i l. let ne : i ≢ k = omega arith in subst (P i) (sym (get_or-set_other ps k i p nowhere ne)) (below i l))
+      (subst (P k) (sym (get_or-set_same ps k p nowhere h)) here)
+
+  pub settled_more : k < length ps → Settled m k ps → EarliestValue m.time (k + 1) (pos p.step) × EarliestValue m.platform (k + 1) (pos p.metre) → Settled m (k + 1) (set ps k p)
+  settled_more h s here = record {
+    steps = more (λ i x. EarliestValue m.time (i + 1) (pos x.step)) h s.steps here.0;
+    metres = more (λ i x. EarliestValue m.platform (i + 1) (pos x.metre)) h s.metres here.1;
+  }
 
 -- the numbers of all places
-pub places_earliest : (most : ℕ) (m : Meaning) → Valid most m → (f : Place → ℤ) (ps : List Place) (d : Place) → lines m ≡ length ps → ((k : ℕ) → k < length ps → EarliestValue m (k + 1) (f (get_or ps k d))) → Earliest m (at_line (map f ps))
-places_earliest most m valid f ps d size each =
+places_earliest : (most : ℕ) (m : Meaning) → Valid most m → (f : Place → ℤ) (ps : List Place) → lines m ≡ length ps → ((k : ℕ) → k < length ps → EarliestValue m (k + 1) (f (get_or ps k nowhere))) → Earliest m (at_line (map f ps))
+places_earliest most m valid f ps size each =
     values_earliest most m valid (map f ps) (size ∙ sym (length-map ps f))
-    (λ k h. let l : k < length ps = omega (arith, length-map ps f) in subst (EarliestValue m (k + 1)) (sym (get_or-map f ps k d (pos 0) l)) (each k l))
+    (λ k h. let l : k < length ps = omega (arith, length-map ps f) in subst (EarliestValue m (k + 1)) (sym (get_or-map f ps k nowhere (pos 0) l)) (each k l))
+
+-- all boxes are settled, on axes n that mean m
+pub settled_all : (ht hp : ℕ) (n m : Meanings) (ps : List Place) (k : ℕ) → n ≡ m → BothValid ht hp n → Settled n k ps → length ps ≤ k → lines m.time ≡ length ps → lines m.platform ≡ length ps
+    → Earliest m.time (step_of ps) × Earliest m.platform (metre_of ps)
+settled_all ht hp n m ps k e valid s all timed placed =
+    let v = subst (BothValid ht hp) e valid in
+    let s = subst (λ x. Settled x k ps) e s in (
+      places_earliest ht m.time v.0 (λ p. pos p.step) ps timed (λ i h. s.steps i (omega arith)),
+      places_earliest hp m.platform v.1 (λ p. pos p.metre) ps placed (λ i h. s.metres i (omega arith)),
+    )

@@ -1,13 +1,15 @@
-// Bounds on one of two axes: put, taken back, and judged before they are put.
-ghost use Rattle.std.specs.Prelude.{◌≡◌, ◌≤◌, neg_ℤ, ◌≤ℤ◌, ◌<ℤ◌};
-ghost use Rattle.axis.specs.Meaning.{lines, Largest};
-ghost use Rattle.axis.specs.Asks.{Named, Within, InReach};
-ghost use Rattle.boxes.specs.Overlaps.{in_direction};
-ghost use Rattle.moves.specs.Moves.{PutOn, BackOn, Told};
-ghost use Rattle.moves.specs.declared.moves.Standing.TheVariants.{Implied, Impossible};
+// Two axes: bounds on either are put, taken back, and judged before they are put.
+ghost use Rattle.std.specs.Prelude.{◌≡◌, ◌≤◌, length};
+ghost use Rattle.axis.specs.Meaning.{lines, Earliest, Largest};
+ghost use Rattle.axis.specs.Asks.{Named, Within, Tight};
+ghost use Rattle.boxes.specs.Arranged.{step_of, metre_of};
+ghost use Rattle.moves.specs.Meanings.{along, BothValid};
+ghost use Rattle.moves.specs.Moves.{ResetOn, PutOn, BackOn, Told};
 
+use crate::places::{line_count, place_of};
 use axis::{Axis, AxisFault, Bound};
-use boxes::{Direction, Entry};
+use boxes::{Direction, Entry, Place};
+use std::marker::Model;
 
 // A bound that every placement keeps already, that some may keep, or that none does.
 #[derive(Clone, Copy, PartialEq, Eq, Debug)]
@@ -17,84 +19,124 @@ pub enum Standing {
     Impossible,
 }
 
-pub fn put_on<T: Axis, P: Axis>(
-    time: &mut T,
-    platform: &mut P,
-    entry: Entry,
-) -> Result<(), AxisFault>
-    ensures { PutOn entry.direction T.Axis.holds P.Axis.holds (T.Axis.means time.old) (P.Axis.means platform.old) entry.bound result (T.Axis.means time.new) (P.Axis.means platform.new) }
-{
-    match entry.direction {
-        Direction::Time => time.put(entry.bound),
-        Direction::Platform => platform.put(entry.bound),
+// Boxes stand at steps on the one, and at metres on the other.
+#[derive(Drop)]
+pub struct Axes<T: Axis, P: Axis> {
+    time: T,
+    platform: P,
+}
+
+impl<T: Axis, P: Axis> Model for Axes<T, P> {
+    ghost use Rattle.moves.specs.Meanings.{Meanings};
+
+    ghost Value = { Meanings };
+
+    ghost view = { λ a. record { time = T.means a.time; platform = P.means a.platform } };
+}
+
+impl<T: Axis, P: Axis> Axes<T, P> {
+    pub fn new(time: T, platform: P) -> Axes<T, P>
+        ensures { result ≡ record { time = T.means time; platform = P.means platform } }
+    {
+        Axes { time, platform }
     }
-}
 
-pub fn back_on<T: Axis, P: Axis>(
-    time: &mut T,
-    platform: &mut P,
-    direction: Direction,
-) -> Result<(), AxisFault>
-    ensures { BackOn direction (T.Axis.means time.old) (P.Axis.means platform.old) result (T.Axis.means time.new) (P.Axis.means platform.new) }
-{
-    match direction {
-        Direction::Time => time.back(),
-        Direction::Platform => platform.back(),
+    // New lines on the axis of that direction, and no bounds on it.
+    pub fn reset(
+        &mut self,
+        direction: Direction,
+        lows: &[i16],
+        highs: &[i16],
+    ) -> Result<(), AxisFault>
+        ensures { ResetOn direction self.old lows.now highs.now result self.new }
+    {
+        match direction {
+            Direction::Time => self.time.reset(lows, highs),
+            Direction::Platform => self.platform.reset(lows, highs),
+        }
     }
-}
 
-// The largest difference, where both lines are there.
-pub fn reach<A: Axis>(axis: &A, p: u8, q: u8) -> i16
-    ensures { Named (lines (A.means axis.now)) p q → Largest (A.means axis.now) p q result }
-{
-    match axis.tightest(p, q) {
-        Ok(length) => length,
-        Err(_) => 0,
+    pub fn put(&mut self, entry: Entry) -> Result<(), AxisFault>
+        ensures { PutOn entry.direction T.Axis.holds P.Axis.holds self.old entry.bound result self.new }
+    {
+        match entry.direction {
+            Direction::Time => self.time.put(entry.bound),
+            Direction::Platform => self.platform.put(entry.bound),
+        }
     }
-}
 
-// The largest difference that the bound speaks of: if it is at most d, every placement keeps the bound.
-fn way<A: Axis>(axis: &A, bound: Bound) -> i16
-    requires { Within (lines (A.means axis.now)) bound }
-    ensures { result ≤ℤ bound.d → Told (A.means axis.now) bound Implied }
-{
-    reach(axis, bound.p, bound.q)
-}
-
-// The largest the other way round: if it is less than -d, none does.
-fn way_back<A: Axis>(axis: &A, bound: Bound) -> i16
-    requires { Within (lines (A.means axis.now)) bound }
-    ensures { result <ℤ neg_ℤ bound.d → Told (A.means axis.now) bound Impossible }
-{
-    reach(axis, bound.q, bound.p)
-}
-
-fn negated(d: i16) -> i16
-    requires { InReach d }
-    ensures { result ≡ neg_ℤ d }
-{
-    -d
-}
-
-fn judge<A: Axis>(axis: &A, bound: Bound) -> Standing
-    requires { Within (lines (A.means axis.now)) bound }
-    ensures { Told (A.means axis.now) bound result }
-{
-    if way_back(axis, bound) < negated(bound.d) {
-        return Standing::Impossible;
+    pub fn back(&mut self, direction: Direction) -> Result<(), AxisFault>
+        ensures { BackOn direction self.old result self.new }
+    {
+        match direction {
+            Direction::Time => self.time.back(),
+            Direction::Platform => self.platform.back(),
+        }
     }
-    if way(axis, bound) <= bound.d {
-        return Standing::Implied;
-    }
-    Standing::Possible
-}
 
-pub fn judge_on<T: Axis, P: Axis>(time: &T, platform: &P, entry: Entry) -> Standing
-    requires { Within (lines (in_direction (T.Axis.means time.now) (P.Axis.means platform.now) entry.direction)) entry.bound }
-    ensures { Told (in_direction (T.Axis.means time.now) (P.Axis.means platform.now) entry.direction) entry.bound result }
-{
-    match entry.direction {
-        Direction::Time => judge(time, entry.bound),
-        Direction::Platform => judge(platform, entry.bound),
+    pub fn tightest(&self, direction: Direction, p: u8, q: u8) -> Result<i16, AxisFault>
+        ensures { Tight (along direction self.now) p q result }
+    {
+        match direction {
+            Direction::Time => self.time.tightest(p, q),
+            Direction::Platform => self.platform.tightest(p, q),
+        }
+    }
+
+    // The largest difference, where both lines are there.
+    pub fn reach(&self, direction: Direction, p: u8, q: u8) -> i16
+        ensures { Named (lines (along direction self.now)) p q → Largest (along direction self.now) p q result }
+    {
+        self.tightest(direction, p, q).unwrap_or(0)
+    }
+
+    pub fn judge(&self, entry: Entry) -> Standing
+        requires { Within (lines (along entry.direction self.now)) entry.bound }
+        ensures { Told (along entry.direction self.now) entry.bound result }
+    {
+        let bound = entry.bound;
+        // the largest the other way round: if it is less than -d, no placement keeps the bound
+        if self.reach(entry.direction, bound.q, bound.p) < -bound.d {
+            return Standing::Impossible;
+        }
+        // if it is at most d, every placement keeps the bound
+        if self.reach(entry.direction, bound.p, bound.q) <= bound.d {
+            return Standing::Implied;
+        }
+        Standing::Possible
+    }
+
+    // How many bounds stand on the axis of that direction.
+    pub fn count(&self, direction: Direction) -> usize
+        ensures count { result ≡ length (along direction self.now).bounds }
+        ensures valid { BothValid T.Axis.holds P.Axis.holds self.now }
+    {
+        match direction {
+            Direction::Time => self.time.count(),
+            Direction::Platform => self.platform.count(),
+        }
+    }
+
+    // So many boxes, with a line for each: there are never more than twelve.
+    pub fn box_count(&self, boxes: usize) -> u8
+        requires { lines self.now.time ≡ boxes }
+        ensures count { result ≡ boxes }
+        ensures few { result ≤ 12 }
+    {
+        line_count(&self.time, boxes)
+    }
+
+    // Each box's earliest step and nearest metre.
+    pub fn place_all(&self, places: &mut [Place])
+        requires few { length places.old ≤ 12 }
+        requires timed { lines self.now.time ≡ length places.old }
+        requires placed { lines self.now.platform ≡ length places.old }
+        ensures timely { Earliest self.now.time (step_of places.new) }
+        ensures nearest { Earliest self.now.platform (metre_of places.new) }
+    {
+        for (k, place) in places.iter_mut().enumerate() {
+            let (step, metre) = place_of(&self.time, &self.platform, k as u8 + 1);
+            *place = Place { step, metre };
+        }
     }
 }

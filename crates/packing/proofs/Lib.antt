@@ -1,2 +1,3 @@
 mod Above
+mod Climbing
 mod Starts

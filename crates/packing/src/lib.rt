@@ -4,5 +4,5 @@
 mod descent;
 mod packs;
 
-pub use moves::{Standing, back_on, put_on};
-pub use packs::{Outcome, pack};
+pub use moves::{Axes, Standing};
+pub use packs::{NoArrangement, pack};

@@ -16,14 +16,14 @@ use Rattle.report.specs.Reports.{Reported}
 
 module _ (k : Journal) (before after : List ℕ) (r : Result ℕ TextFault) where
   module _ (m n : ℕ) (places : length k.stays ≤ m) (trials : pairs (length k.stays) ≤ n) where
-    only_none : (f : SheetFault) → FirstNo (settle_asks k m n) f → (f ≡ NoPlan) × ((x y : ℕ → ℤ) → ¬ (Plan k x y))
+    only_none : (f : SheetFault) → FirstNo (settle_asks k m n) f → (x y : ℕ → ℤ) → ¬ (Plan k x y)
     only_none f (inl h) = absurd (h.0 places)
     only_none f (inr (y, inl h)) = absurd (h.0 trials)
-    only_none f (inr (y, inr (z, inl h))) = (h.1, λ x y p. h.0 (x, (y, p)))
+    only_none f (inr (y, inr (z, inl h))) = λ x y p. h.0 (x, (y, p))
     only_none f (inr (y, inr (z, inr h))) = absurd h.1
 
-    pub none_reported : (f : SheetFault) → FirstNo (settle_asks k m n) f → (f ≡ NoPlan → Printed no_plan_text before after r) → Reported k before after r
-    none_reported f first printed = let h = only_none f first in (no_plan_text, (inr (h.1, refl), printed h.0))
+    pub none_reported : (f : SheetFault) → FirstNo (settle_asks k m n) f → Printed no_plan_text before after r → Reported k before after r
+    none_reported f first printed = (no_plan_text, (inr (only_none f first, refl), printed))
 
   pub plan_reported : (m n : ℕ) (k' : Journal) (ps qs : List Place) (ts : List Trial) → qs ≡ ps → Step k (settle m n) (plan ps ts) k' → Printed (plan_text qs) before after r → Reported k before after r
   plan_reported m n k' ps qs ts same step printed =

@@ -1,3 +1,1 @@
-pub mod Knows
 pub mod Listed
-pub mod Settling

@@ -1,18 +1,13 @@
 -- Any list of calls on a sheet, told by the journal.
-use Rattle.std.specs.Prelude.{◌≡◌, List, [], ◌∷◌, map, length, take, Some, None, Ok, Err, vec_items, Option, Result}
+use Rattle.std.specs.Prelude.{◌≡◌, List, [], ◌∷◌, ◌++◌, map, length, take, Ok, Err, vec_items, Result}
 use Rattle.std.specs.declared.alloc.AllocError.{AllocError}
-use Rattle.axis.specs.Meaning.{Meaning}
-use Rattle.axis.specs.Questions.{FirstNo}
 use Rattle.faults.specs.declared.model.SheetFault.{SheetFault}
-use Rattle.journal.specs.Journal.{Journal, new}
-use Rattle.journal.specs.Asks.{load_asks}
+use Rattle.journal.specs.Journal.{Journal}
 use Rattle.journal.specs.Steps.{Request, load, bind, rule, withdraw, ask, settle, Reply, done, refused, difference, plan, Step}
-use Rattle.sheet.specs.declared.Sheet.{Sheet}
-use Rattle.sheet.specs.Standing.{journal_of, Stands}
 use Rattle.runs.specs.declared.model.Call.{Call}
 use Rattle.runs.specs.declared.model.Call.TheVariants as call
-use Rattle.runs.specs.declared.model.Answer.{Answer}
-use Rattle.runs.specs.declared.model.Answer.TheVariants as answer
+use Rattle.runs.specs.declared.model.Told.{Told}
+use Rattle.runs.specs.declared.model.Told.TheVariants as told
 
 abbrev pub request : Call → Request
 request (call.Load span platform stays) = load span platform (vec_items stays)
@@ -22,45 +17,31 @@ request call.Withdraw = withdraw
 request (call.Ask letter p q) = ask letter p q
 request (call.Settle places trials) = settle places trials
 
-abbrev pub reply : Answer → Reply
-reply answer.Done = done
-reply (answer.Refused f) = refused f
-reply (answer.Difference t) = difference t
-reply (answer.Plan places trials) = plan (vec_items places) (vec_items trials)
+abbrev pub Answer : Type 0
+Answer = Result Told SheetFault
 
--- What is known of a sheet is the journal that it stands for, or nothing. While nothing is known only a load tells something: its questions
--- are asked of its arguments alone, and once one is accepted the journal is known.
-abbrev pub StepFrom : Option Journal → Request → Reply → Option Journal → Type 0
-StepFrom (Some k) c a (Some k') = Step k c a k'
-StepFrom (Some k) c a None = ⊥
-StepFrom None (load span platform stays) a (Some k') = (a ≡ done) × Step new (load span platform stays) done k'
-StepFrom None (load span platform stays) a None = (f : SheetFault) × ((a ≡ refused f) × FirstNo (load_asks span platform stays) f)
-StepFrom None (bind letter b) a o' = o' ≡ None
-StepFrom None (rule i j word) a o' = o' ≡ None
-StepFrom None withdraw a o' = o' ≡ None
-StepFrom None (ask letter p q) a o' = o' ≡ None
-StepFrom None (settle places trials) a o' = o' ≡ None
+abbrev pub reply : Answer → Reply
+reply (Ok told.Done) = done
+reply (Ok (told.Difference t)) = difference t
+reply (Ok (told.Plan places trials)) = plan (vec_items places) (vec_items trials)
+reply (Err f) = refused f
 
 -- a list of calls, answered in order
-abbrev pub RunFrom : Option Journal → List Request → List Reply → Option Journal → Type 0
-RunFrom o [] [] o' = o' ≡ o
-RunFrom o [] (a ∷ more) o' = ⊥
-RunFrom o (c ∷ cs) [] o' = ⊥
-RunFrom o (c ∷ cs) (a ∷ more) o' = (m : Option Journal) × (StepFrom o c a m × RunFrom m cs more o')
+abbrev pub RunFrom : Journal → List Request → List Reply → Journal → Type 0
+RunFrom k [] [] k' = k' ≡ k
+RunFrom k [] (a ∷ more) k' = ⊥
+RunFrom k (c ∷ cs) [] k' = ⊥
+RunFrom k (c ∷ cs) (a ∷ more) k' = (m : Journal) × (Step k c a m × RunFrom m cs more k')
 
-module _ {T P : Type 0} (in_time : T → Meaning) (on_platform : P → Meaning) where
-  -- the sheet stands for the journal that is known of it
-  abbrev pub Known : Sheet T P → Option Journal → Type 0
-  Known s None = Unit {0}
-  Known s (Some k) = (k ≡ journal_of s) × Stands in_time on_platform s
+-- one call: its answer is a step of the journal; for want of memory for the answer nothing has changed
+abbrev pub Answered : Journal → Request → Result Answer AllocError → Journal → Type 0
+Answered k c (Ok a) k' = Step k c (reply a) k'
+Answered k c (Err e) k' = k' ≡ k
 
-  -- one call: its answer is a step from what is known; for want of memory for the answer nothing has changed
-  abbrev pub Answered : Sheet T P → Request → Result Answer AllocError → Sheet T P → Type 0
-  Answered s c (Ok a) s' = (o : Option Journal) → Known s o → (o' : Option Journal) × (StepFrom o c (reply a) o' × Known s' o')
-  Answered s c (Err e) s' = (o : Option Journal) → Known s o → Known s' o
+-- the calls that were answered, from the first on, are a run from one journal to another
+abbrev pub Ran : Journal → List Call → List Answer → Journal → Type 0
+Ran k calls given k' = RunFrom k (map request (take (length given) calls)) (map reply given) k'
 
-  -- the calls that were answered, from the first on, are a run from what is known to what is known afterwards
-  abbrev pub Ran : Sheet T P → List Call → List Answer → Sheet T P → Type 0
-  Ran s calls given s' =
-      (o : Option Journal) → Known s o
-      → (o' : Option Journal) × (RunFrom o (map request (take (length given) calls)) (map reply given) o' × Known s' o')
+-- and their answers stand behind those that stood before
+abbrev pub RanMore : Journal → List Call → List Answer → List Answer → Journal → Type 0
+RanMore k calls before after k' = (given : List Answer) × ((after ≡ before ++ given) × Ran k calls given k')

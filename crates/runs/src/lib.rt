@@ -6,4 +6,4 @@ mod model;
 mod plans;
 
 pub use calls::run;
-pub use model::{Answer, Answers, Call};
+pub use model::{Answer, Call, Told};

@@ -34,10 +34,10 @@ pub enum Call {
     },
 }
 
+// What a call tells that is not refused.
 #[derive(Drop)]
-pub enum Answer {
+pub enum Told {
     Done,
-    Refused(SheetFault),
     Difference(i16),
     Plan {
         places: Vec<Place>,
@@ -45,9 +45,4 @@ pub enum Answer {
     },
 }
 
-// The answers to the calls that were given; to all of them, unless memory ran out.
-#[derive(Drop)]
-pub struct Answers {
-    pub given: Vec<Answer>,
-    pub complete: bool,
-}
+pub type Answer = Result<Told, SheetFault>;

@@ -3,19 +3,32 @@
 
 use axis::Axis;
 use journal::{Entries, Ranges, Stays};
+use moves::Axes;
+use std::marker::Model;
 
 mod changes;
-mod held;
 mod loads;
 mod reads;
 mod settles;
 
-// Between calls the axes hold the stays' lines and the entries' bounds.
 #[derive(Drop)]
-pub struct Sheet<T, P> {
-    time: T,
-    platform: P,
+pub struct Sheet<T: Axis, P: Axis> {
+    axes: Axes<T, P>,
     stays: Stays,
     entries: Entries,
     ranges: Ranges,
+}
+
+// A clause sees the journal, whose lines and bounds the axes hold.
+impl<T: Axis, P: Axis> Model for Sheet<T, P> {
+    ghost use Rattle.std.specs.Prelude.{◌≡◌};
+    ghost use Rattle.journal.specs.Journal.{Journal};
+    ghost use Rattle.journal.specs.Tables.{told};
+    ghost use Rattle.sheet.specs.Standing.{axes_of};
+
+    ghost Value = { Journal };
+
+    ghost view = { λ s. told s.stays s.entries };
+
+    ghost invariant = { λ s. s.axes ≡ axes_of (told s.stays s.entries) };
 }

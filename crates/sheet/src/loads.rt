@@ -1,62 +1,78 @@
 // How a sheet begins and is loaded.
-ghost use Rattle.std.specs.Prelude.{◌≡◌, [], length, IfOk};
-ghost use Rattle.axis.specs.Asks.{Paired, Ordered};
-ghost use Rattle.journal.specs.Journal.{new};
-ghost use Rattle.sheet.specs.Standing.{journal_of, Stands, Loads};
+ghost use Rattle.std.specs.Prelude.{◌≡◌, map, IfOk, Ok};
+ghost use Rattle.moves.specs.Moves.{ResetOn};
+ghost use Rattle.journal.specs.Journal.{new, low_on, high_on};
+ghost use Rattle.journal.specs.Steps.{load, said, Step};
+ghost use Rattle.sheet.specs.Standing.{axes_of};
 
 use crate::Sheet;
 use axis::Axis;
 use boxes::Direction;
 use faults::SheetFault;
-use journal::{Entries, Ranges, Stay, Stays, check_load};
+use journal::{Entries, Loading, Ranges, Stay, Stays, check_load};
+use moves::Axes;
 use std::alloc::{AllocError, Global};
 
-// New lines on an axis, and no bounds.
-fn lay_lines<A: Axis>(axis: &mut A, lows: &[i16], highs: &[i16])
-    requires paired { Paired lows.now highs.now }
-    requires ordered { Ordered lows.now highs.now }
-    ensures { A.means axis.new ≡ record { lows = lows.entry.now; highs = highs.now; bounds = [] } }
+// No lines, and no bounds.
+fn empty<T: Axis, P: Axis>(axes: &mut Axes<T, P>)
+    ensures { axes.new ≡ axes_of new }
 {
-    let _ = axis.reset(lows, highs);
+    let _ = axes.reset(Direction::Time, &[], &[]);
+    let _ = axes.reset(Direction::Platform, &[], &[]);
+}
+
+// The stays' lines on the axis of the direction, and no bounds.
+fn line_up<T: Axis, P: Axis>(
+    axes: &mut Axes<T, P>,
+    ranges: &mut Ranges,
+    direction: Direction,
+    loading: &Loading<'_>,
+)
+    ensures { ResetOn direction axes.old (map (low_on direction) loading.now.stays.now) (map (high_on direction loading.now.span loading.now.platform) loading.now.stays.now) (Ok tt) axes.new }
+{
+    ranges.line_up(direction, loading);
+    let _ = axes.reset(direction, ranges.lows(), ranges.highs());
 }
 
 impl<T: Axis + Drop, P: Axis + Drop> Sheet<T, P> {
     // A span of one step on a platform of one metre, no stays and no entries; the axes are emptied.
     pub fn new(heap: Global, time: T, platform: P) -> Result<Sheet<T, P>, AllocError>
-        ensures { IfOk result (λ s. (journal_of s ≡ new) × Stands T.Axis.means P.Axis.means s) }
+        ensures { IfOk result (λ s. s ≡ new) }
     {
-        let mut sheet = Sheet {
-            time,
-            platform,
+        let mut axes = Axes::new(time, platform);
+        empty(&mut axes);
+        Ok(Sheet {
+            axes,
             stays: Stays::new(heap)?,
             entries: Entries::new(heap)?,
             ranges: Ranges::new(heap)?,
-        };
-        sheet.renew();
-        Ok(sheet)
+        })
     }
+}
 
+impl<T: Axis, P: Axis> Sheet<T, P> {
     // The sheet is again as a new one.
     pub fn renew(&mut self)
-        ensures { (journal_of self.new ≡ new) × Stands T.Axis.means P.Axis.means self.new }
+        ensures { self.new ≡ new }
     {
-        lay_lines(&mut self.time, &[], &[]);
-        lay_lines(&mut self.platform, &[], &[]);
+        empty(&mut self.axes);
         self.stays.clear();
         self.entries.clear();
     }
 
     // These stays, and no entries.
     pub fn load(&mut self, span: u16, platform: u16, stays: &[Stay]) -> Result<(), SheetFault>
-        ensures { Loads T.Axis.means P.Axis.means self.old span platform stays.now result self.new }
+        ensures { Step self.old (load span platform stays.now) (said result) self.new }
     {
-        check_load(span, platform, stays)?;
-        self.ranges.line_up(Direction::Time, span, platform, stays);
-        lay_lines(&mut self.time, self.ranges.lows(), self.ranges.highs());
-        self.ranges
-            .line_up(Direction::Platform, span, platform, stays);
-        lay_lines(&mut self.platform, self.ranges.lows(), self.ranges.highs());
-        self.stays.refill(span, platform, stays);
+        let loading = check_load(span, platform, stays)?;
+        line_up(&mut self.axes, &mut self.ranges, Direction::Time, &loading);
+        line_up(
+            &mut self.axes,
+            &mut self.ranges,
+            Direction::Platform,
+            &loading,
+        );
+        self.stays.refill(&loading);
         self.entries.clear();
         Ok(())
     }

@@ -5,6 +5,7 @@ use faults::SheetFault;
 use journal::{Stay, Window};
 use list_axis::ListAxis;
 use matrix_axis::MatrixAxis;
+use runs::{Call, Told, run};
 use sheet::Sheet;
 use stack::Trial;
 use std::process::Abort;
@@ -14,6 +15,30 @@ const BLANK: Trial = Trial {
     i: 0,
     j: 0,
     word: None,
+};
+
+const FIRST: Stay = Stay {
+    circuit: 90,
+    lead: 10,
+    dwell: 60,
+    metres: 60,
+    window: None,
+};
+
+const SECOND: Stay = Stay {
+    circuit: 120,
+    lead: 0,
+    dwell: 120,
+    metres: 60,
+    window: None,
+};
+
+const THIRD: Stay = Stay {
+    circuit: 60,
+    lead: 0,
+    dwell: 30,
+    metres: 40,
+    window: Some(Window { from: 0, until: 2 }),
 };
 
 fn bound(p: u8, q: u8, d: i16) -> Bound {
@@ -35,48 +60,15 @@ fn short(window: Option<Window>) -> Stay {
     }
 }
 
-fn first() -> Stay {
-    Stay {
-        circuit: 90,
-        lead: 10,
-        dwell: 60,
-        metres: 60,
-        window: None,
-    }
-}
-
-fn second() -> Stay {
-    Stay {
-        circuit: 120,
-        lead: 0,
-        dwell: 120,
-        metres: 60,
-        window: None,
-    }
-}
-
-fn third() -> Stay {
-    Stay {
-        circuit: 60,
-        lead: 0,
-        dwell: 30,
-        metres: 40,
-        window: Some(Window { from: 0, until: 2 }),
-    }
-}
-
 fn number(answer: Result<(), SheetFault>) -> u8 {
-    match answer {
-        Ok(()) => 0,
-        Err(fault) => fault.number(),
-    }
+    answer.err().map_or(0, |fault| fault.number())
 }
 
-fn load_three<T: Axis + Drop, P: Axis + Drop>(sheet: &mut Sheet<T, P>) -> Result<(), SheetFault> {
-    sheet.load(7, 100, &[first(), second(), third()])
+fn load_three<T: Axis, P: Axis>(sheet: &mut Sheet<T, P>) -> Result<(), SheetFault> {
+    sheet.load(7, 100, &[FIRST, SECOND, THIRD])
 }
 
-fn rules<T: Axis + Drop, P: Axis + Drop>(
+fn rules<T: Axis, P: Axis>(
     rt: &impl Abort,
     sheet: &mut Sheet<T, P>,
 ) -> Result<(), Fail> {
@@ -96,7 +88,7 @@ fn rules<T: Axis + Drop, P: Axis + Drop>(
 }
 
 // The record past the plan is kept.
-fn plan<T: Axis + Drop, P: Axis + Drop>(
+fn plan<T: Axis, P: Axis>(
     rt: &impl Abort,
     sheet: &mut Sheet<T, P>,
 ) -> Result<(), Fail> {
@@ -113,11 +105,11 @@ fn plan<T: Axis + Drop, P: Axis + Drop>(
 }
 
 // The places are kept, and the trial record is blank.
-fn no_plan<T: Axis + Drop, P: Axis + Drop>(
+fn no_plan<T: Axis, P: Axis>(
     rt: &impl Abort,
     sheet: &mut Sheet<T, P>,
 ) -> Result<(), Fail> {
-    sheet.load(6, 100, &[first(), second()])?;
+    sheet.load(6, 100, &[FIRST, SECOND])?;
     let mut places = [place(8, 9); 2];
     let mut trials = [Trial {
         i: 7,
@@ -130,7 +122,7 @@ fn no_plan<T: Axis + Drop, P: Axis + Drop>(
     Ok(())
 }
 
-fn no_stays<T: Axis + Drop, P: Axis + Drop>(
+fn no_stays<T: Axis, P: Axis>(
     rt: &impl Abort,
     sheet: &mut Sheet<T, P>,
 ) -> Result<(), Fail> {
@@ -141,7 +133,7 @@ fn no_stays<T: Axis + Drop, P: Axis + Drop>(
     Ok(())
 }
 
-fn itself<T: Axis + Drop, P: Axis + Drop>(
+fn itself<T: Axis, P: Axis>(
     rt: &impl Abort,
     sheet: &mut Sheet<T, P>,
 ) -> Result<(), Fail> {
@@ -154,7 +146,7 @@ fn itself<T: Axis + Drop, P: Axis + Drop>(
 }
 
 // A refused load leaves the stays that stood.
-fn windows<T: Axis + Drop, P: Axis + Drop>(
+fn windows<T: Axis, P: Axis>(
     rt: &impl Abort,
     sheet: &mut Sheet<T, P>,
 ) -> Result<(), Fail> {
@@ -171,7 +163,7 @@ fn windows<T: Axis + Drop, P: Axis + Drop>(
     Ok(())
 }
 
-fn bad_loads<T: Axis + Drop, P: Axis + Drop>(rt: &impl Abort, sheet: &mut Sheet<T, P>) {
+fn bad_loads<T: Axis, P: Axis>(rt: &impl Abort, sheet: &mut Sheet<T, P>) {
     let good = short(None);
     assert_eq!(rt; number(sheet.load(2881, 1000, &[])), 11);
     assert_eq!(rt; number(sheet.load(2880, 1001, &[])), 11);
@@ -202,7 +194,7 @@ fn bad_loads<T: Axis + Drop, P: Axis + Drop>(rt: &impl Abort, sheet: &mut Sheet<
 }
 
 // The letters are capitals.
-fn bad_entries<T: Axis + Drop, P: Axis + Drop>(
+fn bad_entries<T: Axis, P: Axis>(
     rt: &impl Abort,
     sheet: &mut Sheet<T, P>,
 ) -> Result<(), Fail> {
@@ -226,7 +218,7 @@ fn bad_entries<T: Axis + Drop, P: Axis + Drop>(
 }
 
 // The other axis has its own twenty-four.
-fn full<T: Axis + Drop, P: Axis + Drop>(
+fn full<T: Axis, P: Axis>(
     rt: &impl Abort,
     sheet: &mut Sheet<T, P>,
 ) -> Result<(), Fail> {
@@ -240,7 +232,7 @@ fn full<T: Axis + Drop, P: Axis + Drop>(
     Ok(())
 }
 
-fn answers<T: Axis + Drop, P: Axis + Drop>(
+fn answers<T: Axis, P: Axis>(
     rt: &impl Abort,
     sheet: &mut Sheet<T, P>,
 ) -> Result<(), Fail> {
@@ -267,4 +259,54 @@ fn time_on_a_list(rt: HostRuntime) -> Result<(), Fail> {
     let heap = rt.alloc();
     let mut sheet = Sheet::new(heap, ListAxis::new(heap)?, MatrixAxis::new(heap)?)?;
     answers(&rt, &mut sheet)
+}
+
+// The answers stand in the order of the calls, behind what stood there.
+#[test]
+fn a_list_of_calls(rt: HostRuntime) -> Result<(), Fail> {
+    let heap = rt.alloc();
+    let mut sheet = Sheet::new(heap, MatrixAxis::new(heap)?, ListAxis::new(heap)?)?;
+    let stays = Vec::from_slice(heap, &[FIRST, SECOND, THIRD])?;
+    let load = Call::Load {
+        span: 7,
+        platform: 100,
+        stays,
+    };
+    let ask = Call::Ask {
+        letter: 'T',
+        p: 1,
+        q: 0,
+    };
+    let rule = Call::Rule {
+        i: 1,
+        j: 2,
+        word: 'B',
+    };
+    let bind = Call::Bind {
+        letter: 'P',
+        bound: bound(1, 3, -60),
+    };
+    let settle = Call::Settle {
+        places: 3,
+        trials: 3,
+    };
+    let mut given = Vec::new(heap);
+    given.push(Err(SheetFault::NoPlan))?;
+    run(
+        heap,
+        &mut sheet,
+        &[Call::Withdraw, load, ask, rule, bind, settle],
+        &mut given,
+    )?;
+    let [Err(SheetFault::NoPlan), Err(SheetFault::NoEntry), Ok(Told::Done), Ok(Told::Difference(4)), Ok(Told::Done), Ok(Told::Done), Ok(Told::Plan { places, trials })] =
+        given.as_slice()
+    else {
+        panic!(rt; "not these answers");
+    };
+    assert_eq!(rt;
+        places.as_slice(),
+        [place(0, 0), place(3, 0), place(0, 60)].as_slice()
+    );
+    assert_eq!(rt; trials.len(), 3);
+    Ok(())
 }

@@ -1,2 +1,4 @@
 pub mod Nodes
+mod Entering
 mod Picks
+mod Starting

@@ -1,20 +1,32 @@
--- One trial more is considered.
-use Rattle.std.proofs.Common.{◌≡◌, ℕ, ◌+◌, true, List, get_or, is_some, Some, None, Option, sym, ap, subst, inl, inr, arith, below_more}
+-- The pair picked is open, and where none is picked, none is.
+use Rattle.std.proofs.Common.{◌≡◌, ℕ, ◌+◌, ◌<◌, true, false, cond, not, List, length, get_or, is_some, IfSome, Some, None, Option, sym, refl, arith}
+use Rattle.std.specs.List.{count_by}
+use Rattle.std.proofs.lemmas.List.Recursion.{is_count_by}
 use Rattle.std.proofs.lemmas.Bool.{false≢true}
 use Rattle.stack.specs.declared.elements.Word.{Word}
 use Rattle.stack.specs.declared.elements.Trial.{Trial}
 use Rattle.boxes.specs.Order.{no_trial}
-use Rattle.trials.specs.Trials.{PickedBelow, Considered}
+use Rattle.trials.specs.Trials.{open_one, open_count, PickedBelow}
+use Rattle.trials.proofs.Nodes.{open_some}
 
-still : (n : ℕ) (ts : List Trial) (at : Option ℕ) → is_some at ≡ true → PickedBelow n ts at → PickedBelow (n + 1) ts at
-still n ts None some p = absurd (false≢true some)
-still n ts (Some k) some p = (let h = p.0 in omega arith, p.1)
+no_word : (o : Option Word) → is_some o ≡ false → o ≡ None
+no_word None e = refl
+no_word (Some w) e = absurd (false≢true (sym e))
 
-decided : (n : ℕ) (ts : List Trial) (at : Option ℕ) → is_some (get_or ts n no_trial).word ≡ true → PickedBelow n ts at → PickedBelow (n + 1) ts at
-decided n ts None some p = below_more (λ k. is_some (get_or ts k no_trial).word ≡ true) n p some
-decided n ts (Some k) some p = (let h = p.0 in omega arith, p.1)
+one : (o : Option Word) (n : ℕ) → open_one o + n ≡ cond (not (is_some o)) (1 + n) n
+one None n = refl
+one (Some w) n = omega arith
 
-pub picked_more : (n : ℕ) (ts : List Trial) (word : Option Word) (before after : Option ℕ) → (get_or ts n no_trial).word ≡ word → Considered n word before after → PickedBelow n ts before → PickedBelow (n + 1) ts after
-picked_more n ts None before after e (inl c) p = subst (PickedBelow (n + 1) ts) (sym c) (omega arith, e)
-picked_more n ts None before after e (inr c) p = subst (PickedBelow (n + 1) ts) (sym c.0) (still n ts before c.1 p)
-picked_more n ts (Some w) before after e c p = subst (PickedBelow (n + 1) ts) (sym c) (decided n ts before (ap is_some e) p)
+counted : (ts : List Trial) → open_count ts ≡ count_by (λ t. not (is_some t.word)) ts
+counted = is_count_by open_count (λ t. not (is_some t.word)) refl (λ t ts. one t.word (open_count ts))
+
+worded : (o : Option Word) → ¬ (o ≡ None) → is_some o ≡ true
+worded None n = absurd (n refl)
+worded (Some w) n = refl
+
+none_open : (ts : List Trial) → count_by (λ t. not (is_some t.word)) ts ≡ 0 → (k : ℕ) → k < length ts → is_some (get_or ts k no_trial).word ≡ true
+none_open ts e k h = worded (get_or ts k no_trial).word (λ o. let some = open_some ts k h o in omega (arith, e, counted ts))
+
+pub picked : (ts : List Trial) (at : Option ℕ) → IfSome at (λ k. (k < length ts) × (is_some (get_or ts k no_trial).word ≡ false)) → (is_some at ≡ false → count_by (λ t. not (is_some t.word)) ts ≡ 0) → PickedBelow (length ts) ts at
+picked ts None some none = none_open ts (none refl)
+picked ts (Some k) some none = (some.0, no_word _ some.1)

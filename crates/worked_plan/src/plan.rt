@@ -1,6 +1,5 @@
 // The worked sheet, on any two axes.
 ghost use Rattle.std.specs.Prelude.{◌≡◌, IfOk};
-ghost use Rattle.sheet.specs.Standing.{journal_of, Stands};
 ghost use Rattle.worked_plan.specs.Sheet.{worked_stays, worked_sheet};
 
 use axis::{Axis, Bound};
@@ -43,7 +42,7 @@ pub fn worked<T: Axis + Drop, P: Axis + Drop>(
     time: T,
     platform: P,
 ) -> anyhow::Result<Sheet<T, P>>
-    ensures { IfOk result (λ s. (journal_of s ≡ worked_sheet) × Stands T.Axis.means P.Axis.means s) }
+    ensures { IfOk result (λ s. s ≡ worked_sheet) }
 {
     let mut sheet = Sheet::new(heap, time, platform)?;
     sheet.load(7, 100, &stays())?;

@@ -2,9 +2,5 @@ use Rattle.std.proofs.Common.{arith}
 use Rattle.boxes.proofs.Laid.{pair_more}
 use Rattle.boxes.proofs.order.lay_row.Goals as goal
 
-pub loop-j-preserved : goal.loop-j-preserved
-loop-j-preserved c = (
-  omega arith,
-  omega arith,
-  pair_more _ c.loop-j.trials c.args.i c.loop-j.j c.loop-j.k (omega arith) (omega arith) c.loop-j.invariant.2,
-)
+pub loop-k-preserved : goal.loop-k-preserved
+loop-k-preserved c = pair_more c.loop-k.row c.args.i c.loop-k.k (omega arith) c.loop-k.invariant

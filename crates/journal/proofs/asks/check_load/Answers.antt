@@ -1,6 +1,5 @@
-use Rattle.std.proofs.Common.{rules}
-use Rattle.journal.proofs.Asked.{checked_good}
+use Rattle.journal.proofs.Asked.{all_good}
 use Rattle.journal.proofs.asks.check_load.Goals as goal
 
-pub returns : goal.returns
-returns c = record { asked = search rules; good = checked_good _ _ _ _ c.check_stays.ensures }
+pub invariant_of-result-clause-good : goal.invariant_of-result-clause-good
+invariant_of-result-clause-good c = all_good _ _ 1 _ c.in_ok-check_stays.ensures

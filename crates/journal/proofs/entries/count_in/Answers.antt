@@ -1,8 +1,8 @@
-use Rattle.journal.proofs.Entered.{count_more, count_all}
+use Rattle.std.proofs.Common.{length, refl, rules}
+use Rattle.std.proofs.lemmas.List.Recursion.{is_count_by}
+use Rattle.journal.specs.Journal.{bounds_on}
+use Rattle.journal.proofs.Entered.{on, one_on}
 use Rattle.journal.proofs.entries.count_in.Goals as goal
 
-pub loop-entry-preserved : goal.loop-entry-preserved
-loop-entry-preserved c = count_more c.args.direction c.args.entries.now c.loop-entry.entry-index c.loop-entry.count c.counted-count.result _ c.loop-entry-test.true c.counted-count.ensures c.loop-entry.invariant
-
 pub returns : goal.returns
-returns c = count_all c.args.direction c.args.entries.now c.loop-entry.entry-index c.loop-entry.count c.loop-entry-test.false c.loop-entry.invariant
+returns c = search (rules, is_count_by (λ es. length (bounds_on c.args.direction es)) (on c.args.direction) refl (one_on c.args.direction))

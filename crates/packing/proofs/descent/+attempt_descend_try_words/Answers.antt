@@ -1,47 +1,35 @@
-use Rattle.std.proofs.Common.{refl, ◌∙◌, rules}
-use Rattle.trials.proofs.Nodes.{backed}
-use Rattle.packing.proofs.Above.{reached_up, none_up, set_back, reached_all, four_refuted, implied_only}
+use Rattle.std.proofs.Common.{get_or, set, ap, ◌∙◌, arith, rules}
+use Rattle.boxes.specs.Order.{no_trial}
+use Rattle.packing.proofs.Above.{reached_all, four_refuted}
+use Rattle.packing.proofs.Climbing.{found_above, none_above, reopened, implied_only, refuted_more, restored_on}
 use Rattle.packing.proofs.descent.+attempt_descend_try_words.Goals as goal
 
-pub attempt-returns-then-descend : goal.attempt-returns-then-descend
-attempt-returns-then-descend g t c =
-    let below = c.if-not-enter.ensures.after in
-    let same = c.descend.ensures.same in
-    let up = backed _ _ c.args.sizes.now c.args.trials.now c.requires.node c.args.k c.requires.open.0 c.args.word _ _ _ _ _ _ _ (same.in_time ∙ below.timed) (same.on_platform ∙ below.placed) (same.on_trail ∙ below.noted) c.back_up.result c.back_up.ensures.after in
-    record {
-      found = reached_up _ _ c.args.sizes.now c.args.trials.now c.requires.node c.args.k c.requires.open.0 c.args.word c.requires.open.1 _ _ _ _ _ below.timed below.placed below.tried c.if-descend.ensures.found;
-      same = record { in_time = up.0; on_platform = up.1; on_trail = up.2; room = c.back_up.ensures.size ∙ same.room ∙ c.enter.ensures.size };
-    }
+pub attempt-returns-then-descend-clause-found : goal.attempt-returns-then-descend-clause-found
+attempt-returns-then-descend-clause-found g t c =
+    found_above _ _ c.args.board.now c.requires.ready c.args.k c.requires.open c.args.word c.enter.new.self c.descend.new.board c.if-not-enter.ensures.after c.enter.ensures.boxes c.back_up.new.self c.if-descend.ensures.found c.back_up.ensures.trials c.back_up.ensures.places
 
-pub attempt-returns : goal.attempt-returns
-attempt-returns g t c =
-    let below = c.if-not-enter.ensures.after in
-    let same = c.descend.ensures.same in
-    let none = c.if-descend.ensures.found in
-    let up = backed _ _ c.args.sizes.now c.args.trials.now c.requires.node c.args.k c.requires.open.0 c.args.word _ _ _ _ _ _ _ (same.in_time ∙ below.timed) (same.on_platform ∙ below.placed) (same.on_trail ∙ below.noted) c.back_up-2.result c.back_up-2.ensures.after in
-    record {
-      found = (
-        none_up _ _ c.args.sizes.now c.args.trials.now c.requires.node c.args.k c.requires.open.0 c.args.word _ _ below.timed below.placed none.0,
-        set_back _ _ c.args.sizes.now c.args.trials.now c.requires.node c.args.k c.requires.open.0 c.args.word _ _ below.tried none.1,
-        none.2,
-      );
-      same = record { in_time = up.0; on_platform = up.1; on_trail = up.2; room = c.back_up-2.ensures.size ∙ same.room ∙ c.enter.ensures.size };
-    }
+pub attempt-returns-clause-found : goal.attempt-returns-clause-found
+attempt-returns-clause-found g t c =
+    let none = c.if-descend.ensures.found in (
+      none_above _ _ c.args.board.now c.requires.ready c.args.k c.requires.open c.args.word c.enter.new.self c.descend.new.board c.if-not-enter.ensures.after c.enter.ensures.boxes none.0,
+      c.back_up-2.ensures.trials ∙ c.reopen.ensures.trials ∙ ap (λ ts. set c.descend.new.board.trials.now c.args.k (get_or ts c.args.k no_trial)) c.trials.ensures
+          ∙ reopened _ _ c.args.board.now c.requires.ready c.args.k c.requires.open c.args.word c.enter.new.self c.descend.new.board c.if-not-enter.ensures.after c.enter.ensures.boxes none.1,
+      c.back_up-2.ensures.places ∙ c.reopen.ensures.places ∙ none.2 ∙ c.enter.ensures.places,
+    )
 
-pub descend-returns-in_default : goal.descend-returns-in_default
-descend-returns-in_default g t c = record {
-  found = reached_all _ _ c.args.sizes.now c.args.trials.now _ c.requires.node c.in_default.ensures (search rules) c.place_all.ensures.timely c.place_all.ensures.nearest;
-  same = record { in_time = refl; on_platform = refl; on_trail = refl; room = refl };
-}
+pub descend-returns-in_default-clause-found : goal.descend-returns-in_default-clause-found
+descend-returns-in_default-clause-found g t c =
+    rw c.place_all.ensures.trials (reached_all _ _ _ _ c.requires.ready.node c.in_default.ensures c.place_all.ensures.for_each c.place_all.ensures.timely c.place_all.ensures.nearest)
 
-pub descend-returns-in-Some-implied : goal.descend-returns-in-Some-implied
-descend-returns-in-Some-implied g t c = record {
-  found = implied_only _ _ c.args.sizes.now _ _ _ _ _ _ _ c.attempt.result c.in-Some-implied.ensures c.attempt.ensures.found;
-  same = c.attempt.ensures.same;
-}
+pub descend-returns-in-Some-implied-clause-found : goal.descend-returns-in-Some-implied-clause-found
+descend-returns-in-Some-implied-clause-found g t c = implied_only c.args.board.now c.attempt.new.board _ _ c.attempt.result c.in-Some-implied.ensures c.attempt.ensures.found
 
-pub try_words-returns : goal.try_words-returns
-try_words-returns g t c = record {
-  found = (four_refuted _ _ c.args.sizes.now c.args.trials.now c.requires.node c.args.k c.requires.open.0 c.loop-n.n (search rules) c.loop-n.invariant.3, c.loop-n.invariant.0, c.loop-n.invariant.1);
-  same = c.loop-n.invariant.2;
-}
+pub try_words-loop-word-preserved : goal.try_words-loop-word-preserved
+try_words-loop-word-preserved g t c =
+    let so = c.loop-word.invariant in
+    let none = c.if-attempt.ensures.found in
+    (none.1 ∙ so.0, none.2 ∙ so.1, restored_on c.args.board.now c.loop-word.board c.attempt.new.board so.2 c.attempt.ensures.same, search rules, refuted_more c.args.board.now c.loop-word.board c.args.k c.loop-word.word-index _ (omega arith) so.0 so.2 none.0 so.4)
+
+pub try_words-returns-clause-found : goal.try_words-returns-clause-found
+try_words-returns-clause-found g t c =
+    (four_refuted _ _ _ c.requires.ready.node c.args.k c.requires.open.0 c.loop-word.word-index (search rules) c.loop-word.invariant.4, c.loop-word.invariant.0, c.loop-word.invariant.1)

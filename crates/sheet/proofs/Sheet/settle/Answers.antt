@@ -1,25 +1,17 @@
-use Rattle.std.proofs.Common.{◌≤◌, [], length, refl, rules}
-use Rattle.boxes.specs.Order.{pairs}
-use Rattle.sheet.specs.Standing.{journal_of}
-use Rattle.sheet.proofs.Judged.{settled_plan, settled_none}
+use Rattle.std.proofs.Common.{◌≡◌, rules}
+use Rattle.std.proofs.lemmas.Result.{err_from_is_err_and}
+use Rattle.journal.specs.Tables.{told}
+use Rattle.sheet.proofs.Judged.{plan_found, none_found}
 use Rattle.sheet.proofs.Sheet.settle.Goals as goal
 
-pub returns-then-pack_held : goal.returns-then-pack_held
-returns-then-pack_held g c =
-    let places : length (journal_of c.args.self.now).stays ≤ length c.args.places.now = search rules in
-    let trials : pairs (length (journal_of c.args.self.now).stays) ≤ length c.args.trials.now = search rules in
-    record {
-      answer = λ held. settled_plan (journal_of c.args.self.now) _ _ _ _ held c.pack_held.ensures.same _ _ places trials _ _ (c.if-pack_held.ensures.answer (journal_of c.args.self.now) refl held);
-      written = ((places, trials), c.if-pack_held.ensures.filled);
-      same = record { timely = c.pack_held.ensures.same.0; placed = c.pack_held.ensures.same.1; journal = refl };
-    }
+pub returns-clause-answer : goal.returns-clause-answer
+returns-clause-answer g c =
+    rw (← c.self.view_is)
+    (plan_found (told c.self.inside.stays c.self.inside.entries) _ _ _ _ (search rules) (search rules) c.self.inside.axes _ c.self.invariant c.sizes.ensures.value _ c.pack.ensures.answer c.in_ok-or.field-0 (search rules))
 
-pub returns-else-pack_held : goal.returns-else-pack_held
-returns-else-pack_held g c =
-    let places : length (journal_of c.args.self.now).stays ≤ length c.args.places.now = search rules in
-    let trials : pairs (length (journal_of c.args.self.now).stays) ≤ length c.args.trials.now = search rules in
-    record {
-      answer = λ held. settled_none (journal_of c.args.self.now) _ _ _ _ held c.pack_held.ensures.same _ _ places trials [] [] (c.if-pack_held.ensures.answer (journal_of c.args.self.now) refl held);
-      written = ((λ e. c.if-pack_held.ensures.filled), (λ n. absurd (n refl)));
-      same = record { timely = c.pack_held.ensures.same.0; placed = c.pack_held.ensures.same.1; journal = refl };
-    }
+pub returns-in_err-or-clause-answer : goal.returns-in_err-or-clause-answer
+returns-in_err-or-clause-answer g c =
+    let p = err_from_is_err_and c.from_residual.result c.from_residual.ensures.1 in
+    let e : p.0 ≡ c.in_err-or.field-0.0 = search rules in
+    rw (p.1, e, ← c.self.view_is)
+    (none_found (told c.self.inside.stays c.self.inside.entries) _ _ _ _ (search rules) (search rules) c.self.inside.axes _ c.self.invariant c.sizes.ensures.value _ c.pack.ensures.answer c.in_err-or.field-0.0 (search rules))

@@ -1,12 +1,9 @@
-use Rattle.std.proofs.Common.{ap}
-use Rattle.sheet.specs.Standing.{journal_of}
-use Rattle.sheet.proofs.Holding.{withdrawn, some_entry}
+use Rattle.journal.specs.Tables.{told}
+use Rattle.sheet.proofs.Holding.{back_held, back_gives}
 use Rattle.sheet.proofs.Sheet.withdraw.Goals as goal
 
-pub returns-in_err-back_held : goal.returns-in_err-back_held
-returns-in_err-back_held g c held = absurd (c.in_err-back_held.ensures (journal_of c.args.self.now) c.in-Some.ensures held)
+pub returns-in_err-back : goal.returns-in_err-back
+returns-in_err-back g c = absurd (back_gives (told c.self.inside.stays c.self.inside.entries) _ c.in-Some.ensures _ _ c.self.invariant _ c.in_err-back.ensures)
 
-pub returns : goal.returns
-returns g c held =
-    withdrawn (journal_of c.args.self.now) _ _ _ (ap (λ es. record { span = (journal_of c.args.self.now).span; platform = (journal_of c.args.self.now).platform; stays = (journal_of c.args.self.now).stays; entries = es }) c.pop.ensures)
-    (some_entry _ _ c.in-Some.ensures) (c.in_ok-back_held.ensures (journal_of c.args.self.now) c.in-Some.ensures held)
+pub invariant_of-self-2 : goal.invariant_of-self-2
+invariant_of-self-2 g c = rw c.pop.ensures (back_held (told c.self.inside.stays c.self.inside.entries) _ c.in-Some.ensures _ _ c.self.invariant c.in_ok-back.ensures)

@@ -1,0 +1,43 @@
+// What a load is given, once its questions are all answered yes.
+ghost use Rattle.std.specs.Prelude.{◌≡◌, ℕ, ◌<◌, ◌≤◌, length, pos, ◌-ℤ◌, slice_index_or};
+ghost use Rattle.journal.specs.Stays.{GoodStay, no_stay};
+ghost use Rattle.journal.specs.Journal.{low_on, high_on};
+ghost use Rattle.journal.specs.Asks.{Extents};
+
+use crate::model::Stay;
+use boxes::Direction;
+
+#[derive(Drop)]
+pub struct Loading<'a> {
+    pub(crate) span: u16,
+    pub(crate) platform: u16,
+    pub(crate) stays: &'a [Stay],
+    ghost extents: { Extents span platform },
+    ghost few: { length stays.now ≤ 12 },
+    ghost good: { (k : ℕ) → k < length stays.now → GoodStay span platform (slice_index_or stays.now k no_stay) },
+}
+
+impl Loading<'_> {
+    // The lowest and the highest value of the stay's line.
+    pub(crate) fn range_of(&self, direction: Direction, stay: Stay) -> (i16, i16)
+        requires { GoodStay self.now.span self.now.platform stay }
+        ensures low { result.0 ≡ low_on direction stay }
+        ensures high { result.1 ≡ high_on direction self.now.span self.now.platform stay }
+    {
+        match direction {
+            Direction::Time => (
+                stay.opening() as i16,
+                less(stay.closing(self.span), stay.steps()),
+            ),
+            Direction::Platform => (0, less(self.platform, stay.metres)),
+        }
+    }
+}
+
+// The last place from which the extent still ends by `end`.
+fn less(end: u16, extent: u16) -> i16
+    requires { (extent ≤ end) × (end ≤ 2880) }
+    ensures { result ≡ pos end -ℤ pos extent }
+{
+    (end - extent) as i16
+}

@@ -1,0 +1,185 @@
+// What is done with one word for one pair: judged, its bound put with the trial noted, and taken back.
+ghost use Rattle.std.specs.Prelude.{◌≡◌, ◌<◌, true, length, Some, slice_index_or, slice_set};
+ghost use Rattle.stack.specs.Stacks.{contents};
+ghost use Rattle.axis.specs.Meaning.{Earliest};
+ghost use Rattle.boxes.specs.Order.{no_trial};
+ghost use Rattle.boxes.specs.Arranged.{step_of, metre_of};
+ghost use Rattle.trials.specs.Trials.{Node, ToldWord, entry_of, side};
+ghost use Rattle.trials.specs.Boards.{BackedUp, Entered, Fits, ImpliedAt, OnLoan, Open, Ready, SameBoxes, SameLoans};
+
+use axis::Axis;
+use boxes::{Direction, Entry, Place, Size, lay_out, ruling};
+use moves::{Axes, Standing};
+use stack::{Stack, StackFault, Trial, Word};
+
+// The words in the order in which they are tried.
+pub const WORDS: [Word; 4] = [Word::Before, Word::After, Word::Nearer, Word::Farther];
+
+// Boxes of these sizes on two axes, their trials, and the trials that got a word so far, the newest last.
+// The trail is lent like the rest: of a board that owns it, what its lenders have afterwards was not proved.
+#[derive(Drop)]
+pub struct Board<'a, 't, T: Axis, P: Axis> {
+    axes: &'a mut Axes<T, P>,
+    sizes: &'a [Size],
+    places: &'a mut [Place],
+    trials: &'a mut [Trial],
+    trail: &'a mut Stack<'t, Trial>,
+    tries: u64,
+}
+
+fn side_of(word: Option<Word>) -> Direction
+    ensures { result ≡ side word }
+{
+    match word {
+        Some(Word::Nearer) | Some(Word::Farther) => Direction::Platform,
+        _ => Direction::Time,
+    }
+}
+
+impl<'a, 't, T: Axis, P: Axis> Board<'a, 't, T, P> {
+    pub fn axes(&self) -> &Axes<T, P>
+        ensures { result.now ≡ self.now.axes.now }
+    {
+        self.axes
+    }
+
+    pub fn trials(&self) -> &[Trial]
+        ensures { result.now ≡ self.now.trials.now }
+    {
+        self.trials
+    }
+
+    pub fn tries(&self) -> u64 {
+        self.tries
+    }
+
+    // The size of that box, counted from 1.
+    pub fn size_of(&self, number: u8) -> Size {
+        self.sizes
+            .get(usize::from(number).wrapping_sub(1))
+            .copied()
+            .unwrap_or(Size {
+                steps: 1,
+                metres: 1,
+            })
+    }
+
+    // No pair has a word yet, and none was put.
+    pub fn new(
+        axes: &'a mut Axes<T, P>,
+        sizes: &'a [Size],
+        places: &'a mut [Place],
+        trials: &'a mut [Trial],
+        trail: &'a mut Stack<'t, Trial>,
+    ) -> Board<'a, 't, T, P>
+        requires fits { Fits axes.old sizes.now places.old trials.old trail.old }
+        ensures ready { Ready T.Axis.holds P.Axis.holds result }
+        ensures lent { OnLoan axes.entry places.entry trials.entry trail.entry result }
+        ensures axes { result.axes.now ≡ axes.old }
+        ensures sizes { result.sizes.now ≡ sizes.now }
+        ensures places { result.places.now ≡ places.old }
+    {
+        lay_out(axes.box_count(sizes.len()), trials);
+        Board {
+            axes,
+            sizes,
+            places,
+            trials,
+            trail,
+            tries: 0,
+        }
+    }
+
+    // Takes back the newest trial and its bound.
+    pub fn back_up(&mut self) -> Result<(), StackFault>
+        ensures after { BackedUp self.old self.new result }
+        ensures places { self.new.places.now ≡ self.old.places.now }
+        ensures trials { self.new.trials.now ≡ self.old.trials.now }
+        ensures boxes { SameBoxes self.old self.new }
+        ensures loans { SameLoans self.old self.new }
+    {
+        let trial = self.trail.pop()?;
+        let _ = self.axes.back(side_of(trial.word));
+        Ok(())
+    }
+
+    // The bound of the word for trial k, and what is known of it.
+    fn weigh(&self, k: usize, word: Word) -> (Entry, Standing)
+        requires node { Node self.now.axes.now self.now.sizes.now self.now.trials.now }
+        requires within { k < length self.now.trials.now }
+        ensures entry { result.0 ≡ entry_of self.now.sizes.now self.now.trials.now k word }
+        ensures told { ToldWord self.now.axes.now self.now.sizes.now (slice_index_or self.now.trials.now k no_trial).i (slice_index_or self.now.trials.now k no_trial).j word result.1 }
+    {
+        let pair = self.trials[k];
+        let entry = ruling(self.sizes, pair.i, pair.j, word);
+        (entry, self.axes.judge(entry))
+    }
+
+    // Puts the bound of the word for trial k and notes the trial, or tells that no arrangement has the word.
+    pub fn enter(&mut self, k: usize, word: Word) -> bool
+        requires ready { Ready T.Axis.holds P.Axis.holds self.old }
+        requires open { Open self.old k }
+        ensures after { Entered T.Axis.holds P.Axis.holds k word self.old self.new result }
+        ensures places { self.new.places.now ≡ self.old.places.now }
+        ensures boxes { SameBoxes self.old self.new }
+        ensures loans { SameLoans self.old self.new }
+    {
+        let (entry, standing) = self.weigh(k, word);
+        if standing == Standing::Impossible {
+            return false;
+        }
+        self.tries = self.tries.saturating_add(1);
+        if let Err(_) = self.axes.put(entry) {
+            return false;
+        }
+        let trial = Trial {
+            word: Some(word),
+            ..self.trials[k]
+        };
+        let _ = self.trail.push(trial);
+        self.trials[k] = trial;
+        true
+    }
+
+    // A word that holds of every two placements, if there is one.
+    pub fn implied(&self, k: usize) -> Option<Word>
+        requires node { Node self.now.axes.now self.now.sizes.now self.now.trials.now }
+        requires within { k < length self.now.trials.now }
+        ensures { ImpliedAt self.now k result }
+    {
+        for word in WORDS {
+            if self.weigh(k, word).1 == Standing::Implied {
+                return Some(word);
+            }
+        }
+        None
+    }
+
+    // Trial k is as it was.
+    pub fn reopen(&mut self, k: usize, pair: Trial)
+        requires { k < length self.old.trials.now }
+        ensures trials { self.new.trials.now ≡ slice_set self.old.trials.now k pair }
+        ensures axes { self.new.axes.now ≡ self.old.axes.now }
+        ensures places { self.new.places.now ≡ self.old.places.now }
+        ensures trail { contents self.new.trail.now ≡ contents self.old.trail.now }
+        ensures boxes { SameBoxes self.old self.new }
+        ensures loans { SameLoans self.old self.new }
+    {
+        self.trials[k] = pair;
+    }
+
+    // Each box at its least place under the words so far.
+    pub fn place_all(&mut self)
+        requires ready { Ready T.Axis.holds P.Axis.holds self.old }
+        ensures timely { Earliest self.old.axes.now.time (step_of self.new.places.now) }
+        ensures nearest { Earliest self.old.axes.now.platform (metre_of self.new.places.now) }
+        ensures for_each { length self.new.places.now ≡ length self.old.sizes.now }
+        ensures axes { self.new.axes.now ≡ self.old.axes.now }
+        ensures trials { self.new.trials.now ≡ self.old.trials.now }
+        ensures trail { contents self.new.trail.now ≡ contents self.old.trail.now }
+        ensures boxes { SameBoxes self.old self.new }
+        ensures loans { SameLoans self.old self.new }
+    {
+        self.axes.place_all(self.places);
+    }
+}
