@@ -1,7 +1,6 @@
 // What an image tells of a sheet.
 ghost use Rattle.std.specs.Prelude.{◌≡◌, ◌≤◌, length};
 ghost use Rattle.page.specs.Pages.{put};
-ghost use Rattle.sheet.specs.Standing.{journal_of};
 
 use crate::fields::{Field, put_list};
 use axis::Axis;
@@ -25,8 +24,8 @@ impl<'a> Body<'a> {
     ghost use Rattle.image.specs.Bytes.{body_bytes};
     ghost use Rattle.image.specs.Bodies.{told};
 
-    pub fn of<T: Axis + Drop, P: Axis + Drop>(sheet: &'a Sheet<T, P>) -> Body<'a>
-        ensures { told result ≡ journal_of sheet.now }
+    pub fn of<T: Axis, P: Axis>(sheet: &'a Sheet<T, P>) -> Body<'a>
+        ensures { told result ≡ sheet.now }
     {
         Body {
             span: sheet.span(),

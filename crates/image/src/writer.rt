@@ -4,7 +4,6 @@ ghost use Rattle.image.specs.Bodies.{told};
 ghost use Rattle.image.specs.Bytes.{body_bytes, image_bytes};
 ghost use Rattle.image.specs.Writes.{Written};
 ghost use Rattle.page.specs.Pages.{put};
-ghost use Rattle.sheet.specs.Standing.{journal_of};
 
 use crate::body::Body;
 use crate::fields::Field;
@@ -14,11 +13,8 @@ use page::Page;
 use sheet::Sheet;
 
 // The image fills the front of the buffer, and the answer is its length.
-pub fn write<T: Axis + Drop, P: Axis + Drop>(
-    sheet: &Sheet<T, P>,
-    buffer: &mut [u8],
-) -> Result<usize, ImageFault>
-    ensures { Written (image_bytes (journal_of sheet.now)) buffer.old buffer.new result }
+pub fn write<T: Axis, P: Axis>(sheet: &Sheet<T, P>, buffer: &mut [u8]) -> Result<usize, ImageFault>
+    ensures { Written (image_bytes sheet.now) buffer.old buffer.new result }
 {
     let body = Body::of(sheet);
     let len = body.len();

@@ -1,8 +1,7 @@
 use Rattle.std.proofs.Common.{rules}
 use Rattle.page.proofs.Fills.{fills_or}
 use Rattle.image.specs.Bytes.{image_bytes}
-use Rattle.sheet.specs.Standing.{journal_of}
 use Rattle.image.proofs.writer.write.Goals as goal
 
 pub returns : goal.returns
-returns g c = rw c.ok_or.ensures.value (fills_or _ _ _ _ _ (c.fill.ensures (image_bytes (journal_of c.args.sheet.now)) (λ p q put. search rules)))
+returns g c = rw c.ok_or.ensures.value (fills_or _ _ _ _ _ (c.fill.ensures (image_bytes c.args.sheet.now) (λ p q put. search rules)))
