@@ -27,7 +27,7 @@ fn stay(circuit: u16, lead: u16, dwell: u16, metres: u16, window: Option<Window>
     }
 }
 
-fn fill_in<T: Axis + Drop, P: Axis + Drop>(sheet: &mut Sheet<T, P>) -> Result<(), Fail> {
+fn fill_in<T: Axis, P: Axis>(sheet: &mut Sheet<T, P>) -> Result<(), Fail> {
     let stays = [
         stay(90, 10, 60, 60, None),
         stay(120, 0, 120, 60, None),

@@ -16,7 +16,6 @@ pub struct Stays {
     pub(crate) platform: u16,
     pub(crate) items: Held<Stay, 12>,
     pub(crate) sizes: Held<Size, 12>,
-    ghost few: { length items ≤ 12 },
     ghost measured: { sizes ≡ map size_of items },
     ghost sized: { Sized sizes },
 }
@@ -28,7 +27,7 @@ pub struct Entries {
     ghost few: { (d : Directed) → length (bounds_on d items) ≤ 24 },
 }
 
-// The ranges of the stays' lines on one axis: two lists, since an axis asks whether its lows and highs are equally many.
+// The ranges of the stays' lines on one axis. Kept as two lists: an axis asks whether its lows and highs are equally many.
 #[derive(Drop)]
 pub struct Ranges {
     pub(crate) lows: Held<i16, 12>,

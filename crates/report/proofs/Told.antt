@@ -5,7 +5,6 @@ use Rattle.axis.specs.Questions.{FirstNo}
 use Rattle.boxes.specs.declared.model.Place.{Place}
 use Rattle.boxes.specs.Order.{pairs}
 use Rattle.faults.specs.declared.model.SheetFault.{SheetFault}
-use Rattle.faults.specs.declared.model.SheetFault.TheVariants.{NoPlan}
 use Rattle.text.specs.declared.fault.TextFault.{TextFault}
 use Rattle.text.specs.Texts.{plan_text, no_plan_text}
 use Rattle.text.specs.Prints.{Printed}

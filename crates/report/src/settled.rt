@@ -17,6 +17,7 @@ pub fn report<T: Axis, P: Axis>(
     ensures same { sheet.new ≡ sheet.old }
 {
     let count = sheet.stays().len();
+    // Kept as arrays of the most that a plan fills: a settle takes lent buffers.
     let mut places = [Place { step: 0, metre: 0 }; 12];
     let mut trials = [<Trial as Blank>::blank(); 66];
     match sheet.settle(&mut places, &mut trials) {

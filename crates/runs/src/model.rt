@@ -5,7 +5,7 @@ use faults::SheetFault;
 use journal::Stay;
 use stack::Trial;
 
-// A settle is given by how many records its buffers have.
+// A settle is given by how many records its buffers have. Kept as data, not closures: a list of calls is told by what each is given.
 #[derive(Drop)]
 pub enum Call {
     Load {

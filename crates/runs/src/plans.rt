@@ -20,6 +20,7 @@ pub fn settle_within<T: Axis, P: Axis>(
 {
     let count = sheet.stays().len();
     let words = pair_count(count as u8);
+    // Kept as arrays of the most that a plan fills: a settle takes lent buffers.
     let mut place_slots = [Place { step: 0, metre: 0 }; 12];
     let mut trial_slots = [<Trial as Blank>::blank(); 66];
     let room = places.min(12);

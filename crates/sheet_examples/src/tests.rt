@@ -68,10 +68,7 @@ fn load_three<T: Axis, P: Axis>(sheet: &mut Sheet<T, P>) -> Result<(), SheetFaul
     sheet.load(7, 100, &[FIRST, SECOND, THIRD])
 }
 
-fn rules<T: Axis, P: Axis>(
-    rt: &impl Abort,
-    sheet: &mut Sheet<T, P>,
-) -> Result<(), Fail> {
+fn rules<T: Axis, P: Axis>(rt: &impl Abort, sheet: &mut Sheet<T, P>) -> Result<(), Fail> {
     load_three(sheet)?;
     assert_eq!(rt; sheet.ask('T', 1, 0)?, 4);
     assert_eq!(rt; sheet.ask('T', 0, 1)?, 0);
@@ -88,10 +85,7 @@ fn rules<T: Axis, P: Axis>(
 }
 
 // The record past the plan is kept.
-fn plan<T: Axis, P: Axis>(
-    rt: &impl Abort,
-    sheet: &mut Sheet<T, P>,
-) -> Result<(), Fail> {
+fn plan<T: Axis, P: Axis>(rt: &impl Abort, sheet: &mut Sheet<T, P>) -> Result<(), Fail> {
     load_three(sheet)?;
     sheet.bind('T', bound(1, 2, -3))?;
     sheet.bind('P', bound(1, 3, -60))?;
@@ -105,10 +99,7 @@ fn plan<T: Axis, P: Axis>(
 }
 
 // The places are kept, and the trial record is blank.
-fn no_plan<T: Axis, P: Axis>(
-    rt: &impl Abort,
-    sheet: &mut Sheet<T, P>,
-) -> Result<(), Fail> {
+fn no_plan<T: Axis, P: Axis>(rt: &impl Abort, sheet: &mut Sheet<T, P>) -> Result<(), Fail> {
     sheet.load(6, 100, &[FIRST, SECOND])?;
     let mut places = [place(8, 9); 2];
     let mut trials = [Trial {
@@ -122,10 +113,7 @@ fn no_plan<T: Axis, P: Axis>(
     Ok(())
 }
 
-fn no_stays<T: Axis, P: Axis>(
-    rt: &impl Abort,
-    sheet: &mut Sheet<T, P>,
-) -> Result<(), Fail> {
+fn no_stays<T: Axis, P: Axis>(rt: &impl Abort, sheet: &mut Sheet<T, P>) -> Result<(), Fail> {
     sheet.renew();
     sheet.settle(&mut [], &mut [])?;
     sheet.load(2880, 1000, &[])?;
@@ -133,10 +121,7 @@ fn no_stays<T: Axis, P: Axis>(
     Ok(())
 }
 
-fn itself<T: Axis, P: Axis>(
-    rt: &impl Abort,
-    sheet: &mut Sheet<T, P>,
-) -> Result<(), Fail> {
+fn itself<T: Axis, P: Axis>(rt: &impl Abort, sheet: &mut Sheet<T, P>) -> Result<(), Fail> {
     load_three(sheet)?;
     assert_eq!(rt; number(sheet.bind('T', bound(1, 1, -1))), 6);
     assert_eq!(rt; sheet.entries().len(), 0);
@@ -146,10 +131,7 @@ fn itself<T: Axis, P: Axis>(
 }
 
 // A refused load leaves the stays that stood.
-fn windows<T: Axis, P: Axis>(
-    rt: &impl Abort,
-    sheet: &mut Sheet<T, P>,
-) -> Result<(), Fail> {
+fn windows<T: Axis, P: Axis>(rt: &impl Abort, sheet: &mut Sheet<T, P>) -> Result<(), Fail> {
     let wide = Some(Window { from: 1, until: 3 });
     let narrow = Some(Window { from: 2, until: 3 });
     sheet.load(7, 100, &[short(wide)])?;
@@ -194,10 +176,7 @@ fn bad_loads<T: Axis, P: Axis>(rt: &impl Abort, sheet: &mut Sheet<T, P>) {
 }
 
 // The letters are capitals.
-fn bad_entries<T: Axis, P: Axis>(
-    rt: &impl Abort,
-    sheet: &mut Sheet<T, P>,
-) -> Result<(), Fail> {
+fn bad_entries<T: Axis, P: Axis>(rt: &impl Abort, sheet: &mut Sheet<T, P>) -> Result<(), Fail> {
     load_three(sheet)?;
     assert_eq!(rt; number(sheet.withdraw()), 21);
     assert_eq!(rt; sheet.ask('t', 1, 0), Err(SheetFault::Letter));
@@ -218,10 +197,7 @@ fn bad_entries<T: Axis, P: Axis>(
 }
 
 // The other axis has its own twenty-four.
-fn full<T: Axis, P: Axis>(
-    rt: &impl Abort,
-    sheet: &mut Sheet<T, P>,
-) -> Result<(), Fail> {
+fn full<T: Axis, P: Axis>(rt: &impl Abort, sheet: &mut Sheet<T, P>) -> Result<(), Fail> {
     load_three(sheet)?;
     for _ in 0..24 {
         sheet.bind('T', bound(1, 2, 0))?;
@@ -232,10 +208,7 @@ fn full<T: Axis, P: Axis>(
     Ok(())
 }
 
-fn answers<T: Axis, P: Axis>(
-    rt: &impl Abort,
-    sheet: &mut Sheet<T, P>,
-) -> Result<(), Fail> {
+fn answers<T: Axis, P: Axis>(rt: &impl Abort, sheet: &mut Sheet<T, P>) -> Result<(), Fail> {
     rules(rt, sheet)?;
     plan(rt, sheet)?;
     no_plan(rt, sheet)?;
@@ -298,8 +271,15 @@ fn a_list_of_calls(rt: HostRuntime) -> Result<(), Fail> {
         &[Call::Withdraw, load, ask, rule, bind, settle],
         &mut given,
     )?;
-    let [Err(SheetFault::NoPlan), Err(SheetFault::NoEntry), Ok(Told::Done), Ok(Told::Difference(4)), Ok(Told::Done), Ok(Told::Done), Ok(Told::Plan { places, trials })] =
-        given.as_slice()
+    let [
+        Err(SheetFault::NoPlan),
+        Err(SheetFault::NoEntry),
+        Ok(Told::Done),
+        Ok(Told::Difference(4)),
+        Ok(Told::Done),
+        Ok(Told::Done),
+        Ok(Told::Plan { places, trials }),
+    ] = given.as_slice()
     else {
         panic!(rt; "not these answers");
     };
