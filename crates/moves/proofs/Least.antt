@@ -1,5 +1,5 @@
 -- The earliest values of all lines are the least placement.
-use Rattle.std.proofs.Common.{◌≡◌, ℕ, zero, suc, ◌+◌, ◌<◌, ◌≤◌, ◌≢◌, List, map, length, get_or, set, ℤ, pos, neg_ℤ, ◌≤ℤ◌, sym, ◌∙◌, subst, add-one, arith, below_more}
+use Rattle.std.proofs.Common.{◌≡◌, ℕ, zero, suc, ◌+◌, ◌<◌, ◌≤◌, ◌≢◌, List, map, length, get_or, set, ℤ, pos, neg_ℤ, sym, ◌∙◌, subst, add-one, arith, below_more}
 use Rattle.std.proofs.lemmas.Int.{ints}
 use Rattle.std.proofs.lemmas.List.{get_or-set_same, get_or-set_other, length-map, get_or-map}
 use Rattle.boxes.specs.declared.model.Place.{Place}
@@ -9,13 +9,7 @@ use Rattle.boxes.specs.Arranged.{step_of, metre_of}
 use Rattle.moves.specs.Meanings.{Meanings, BothValid}
 use Rattle.moves.specs.Settled.{nowhere, Settled}
 use Rattle.axis.specs.Theory.{EarliestValue}
-use Rattle.axis.proofs.Distances.{distances_hold_lem, earliest_largest, in_order}
-
-pub value_ahead : (most : ℕ) (m : Meaning) → Valid most m → (r : ℕ) (x : ℤ) → r ≤ lines m → EarliestValue m r x → pos 0 ≤ℤ x
-value_ahead most m v r x h e =
-    let o = in_order m.lows m.highs v.paired v.ordered r h in
-    let a = e.had.1.0.above r h in
-    omega (arith, ints, e.had.1.1)
+use Rattle.axis.proofs.Distances.{distances_hold_lem, earliest_largest}
 
 module _ (most : ℕ) (m : Meaning) (valid : Valid most m) (vs : List ℤ) (size : lines m ≡ length vs) (each : (k : ℕ) → k < length vs → EarliestValue m (k + 1) (get_or vs k (pos 0))) where
   from_zero : (r : ℕ) → r ≤ lines m → Largest m 0 r (neg_ℤ (at_line vs r))

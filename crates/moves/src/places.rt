@@ -25,8 +25,8 @@ pub fn place_of<T: Axis, P: Axis>(time: &T, platform: &P, line: u8) -> (u16, u16
 }
 
 // How many lines an axis has.
-pub fn line_count<A: Axis>(_axis: &A, count: usize) -> u8
-    requires { lines (A.means _axis.now) ≡ count }
+pub fn line_count<A: Axis>(axis: &A, count: usize) -> u8
+    requires { lines (A.means axis.now) ≡ count }
     ensures count { result ≡ count }
     ensures few { result ≤ 12 }
 {

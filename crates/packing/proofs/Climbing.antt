@@ -1,5 +1,5 @@
 -- From the board below back up to the board where the word was put.
-use Rattle.std.proofs.Common.{◌≡◌, ℕ, zero, suc, ◌+◌, ◌<◌, Bool, true, false, [], ◌∷◌, get_or, set, Some, sym, refl, subst, arith, below_more}
+use Rattle.std.proofs.Common.{◌≡◌, ◌∙◌, ℕ, zero, suc, ◌+◌, ◌<◌, Bool, true, false, [], ◌∷◌, get_or, set, Some, sym, refl, subst, arith, below_more}
 use Rattle.stack.specs.declared.elements.Word.{Word}
 use Rattle.stack.specs.declared.elements.Word.TheVariants.{Before, After, Nearer, Farther}
 use Rattle.trials.specs.declared.board.Board.{Board}
@@ -20,8 +20,10 @@ module _ {T P : Type 0} where
     pub none_above : Unarranged b₁ → RefutedAt b k w
     none_above none = none_up b.axes.now b.sizes.now b.trials.now ready.node k open_at.0 w b₁.axes.now below.bound b₁.trials.now below.tried (rw (sym put.0) none)
 
-    pub reopened : b₂.trials.now ≡ b₁.trials.now → set b₂.trials.now k (unworded b₂.trials.now k) ≡ b.trials.now
-    reopened same = set_back b.axes.now b.sizes.now b.trials.now ready.node k open_at.0 w b₁.axes.now below.bound b₁.trials.now below.tried open_at.1 b₂.trials.now same
+    -- b₃ with trial k reopened, and b₄ backed up
+    pub reopened : (b₃ b₄ : Board T P) → b₂.trials.now ≡ b₁.trials.now → b₃.trials.now ≡ set b₂.trials.now k (unworded b₂.trials.now k) → b₄.trials.now ≡ b₃.trials.now → b₄.trials.now ≡ b.trials.now
+    reopened b₃ b₄ same open_again up =
+        up ∙ open_again ∙ set_back b.axes.now b.sizes.now b.trials.now ready.node k open_at.0 w b₁.axes.now below.bound b₁.trials.now below.tried open_at.1 b₂.trials.now same
 
   -- an implied word that no arrangement has leaves none
   pub implied_only : (b b' : Board T P) (k : ℕ) (w : Word) (r : Bool) → ImpliedAt b k (Some w) → Explored (RefutedAt b k w) b b' r → Explored (Unarranged b) b b' r

@@ -11,7 +11,7 @@ pub attempt-returns-clause-found : goal.attempt-returns-clause-found
 attempt-returns-clause-found g t c =
     let none = c.if-descend.ensures.found in (
       none_above _ _ c.args.board.now c.requires.ready c.args.k c.requires.open c.args.word c.enter.new.self c.descend.new.board c.if-not-enter.ensures.after c.enter.ensures.loans none.0,
-      c.back_up-2.ensures.trials ∙ c.reopen.ensures.trials ∙ reopened _ _ c.args.board.now c.requires.ready c.args.k c.requires.open c.args.word c.enter.new.self c.descend.new.board c.if-not-enter.ensures.after c.enter.ensures.loans none.1,
+      reopened _ _ c.args.board.now c.requires.ready c.args.k c.requires.open c.args.word c.enter.new.self c.descend.new.board c.if-not-enter.ensures.after c.enter.ensures.loans c.reopen.new.self c.back_up-2.new.self none.1 c.reopen.ensures.trials c.back_up-2.ensures.trials,
       c.back_up-2.ensures.places ∙ c.reopen.ensures.places ∙ none.2 ∙ c.enter.ensures.places,
     )
 
