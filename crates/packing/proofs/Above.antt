@@ -1,5 +1,5 @@
 -- What the answer from the node below says of a descent's node.
-use Rattle.std.proofs.Common.{◌≡◌, ℕ, ◌+◌, ◌<◌, ◌≤◌, Bool, true, false, List, length, get_or, set, ℤ, is_some, Some, None, Option, sym, refl, ap, ◌∙◌, subst, inl, inr, arith}
+use Rattle.std.proofs.Common.{◌≡◌, ℕ, ◌<◌, ◌≤◌, true, List, length, get_or, set, ℤ, is_some, Some, None, Option, sym, refl, ap, ◌∙◌, subst, inl, inr, arith}
 use Rattle.std.specs.List.{ContainsAt}
 use Rattle.std.proofs.lemmas.List.{length-set, length-map, get_or-set_same, get_or-set_other, set-set, set-get_or}
 use Rattle.std.proofs.lemmas.Bool.{cases_eq, false≢true}
@@ -19,7 +19,7 @@ use Rattle.boxes.specs.Arranged.{step_of, metre_of, NoArrangement, HoldsTrial}
 use Rattle.boxes.proofs.Lie.{free_word, keeps_word}
 use Rattle.moves.specs.Meanings.{Meanings, along, grown}
 use Rattle.moves.proofs.Grown.{placed_grown, placed_before}
-use Rattle.trials.specs.Trials.{StandsWord, Stands, Node, Refuted, PickedBelow, nth_word, worded, entry_of}
+use Rattle.trials.specs.Trials.{StandsWord, Stands, Node, Refuted, PickedBelow, nth_word, worded, unworded, entry_of}
 use Rattle.trials.proofs.Nodes.{in_trial_order, pair_within, kept, pairs_same}
 use Rattle.packing.specs.Descent.{Reached}
 
@@ -36,8 +36,12 @@ module _ (m : Meanings) (sizes : List Size) (ts : List Trial) (node : Node m siz
     pub none_up : NoArrangement n.time n.platform sizes → Refuted m sizes (get_or ts k no_trial).i (get_or ts k no_trial).j w
     none_up none x y a word = let p = grow x y a.timely a.placed word in none x y (record { timely = p.0; placed = p.1; free = a.free })
 
-    pub set_back : (after : List Trial) → after ≡ us → set after k (get_or ts k no_trial) ≡ ts
-    set_back after f = ap (λ xs. set xs k (get_or ts k no_trial)) (f ∙ e) ∙ set-set ts k (worded ts k w) (get_or ts k no_trial) ∙ set-get_or ts k no_trial
+    pub set_back : (get_or ts k no_trial).word ≡ None → (after : List Trial) → after ≡ us → set after k (unworded after k) ≡ ts
+    set_back o after f =
+        let own : unworded (set ts k (worded ts k w)) k ≡ get_or ts k no_trial =
+        ap (λ (t : Trial). record { i = t.i; j = t.j; word = None }) (get_or-set_same ts k (worded ts k w) no_trial h)
+        ∙ ap (λ v. record { i = (get_or ts k no_trial).i; j = (get_or ts k no_trial).j; word = v }) (sym o) in
+        ap (λ xs. set xs k (unworded xs k)) (f ∙ e) ∙ ap (set (set ts k (worded ts k w)) k) own ∙ set-set ts k (worded ts k w) (get_or ts k no_trial) ∙ set-get_or ts k no_trial
 
     -- the answer from below
     pub reached_up : (get_or ts k no_trial).word ≡ None → (after : List Trial) (places : List Place) → Reached n sizes us after places → Reached m sizes ts after places

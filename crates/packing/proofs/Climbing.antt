@@ -1,24 +1,16 @@
 -- From the board below back up to the board where the word was put.
-use Rattle.std.proofs.Common.{◌≡◌, ℕ, zero, suc, ◌+◌, ◌<◌, Bool, true, false, [], ◌∷◌, ◌++◌, length, get_or, set, Some, Ok, Err, Result, sym, refl, ap, ◌∙◌, subst, arith, below_more}
-use Rattle.std.proofs.lemmas.List.{length_push}
+use Rattle.std.proofs.Common.{◌≡◌, ◌∙◌, ℕ, zero, suc, ◌+◌, ◌<◌, Bool, true, false, [], ◌∷◌, get_or, set, Some, sym, refl, subst, arith, below_more}
 use Rattle.stack.specs.declared.elements.Word.{Word}
 use Rattle.stack.specs.declared.elements.Word.TheVariants.{Before, After, Nearer, Farther}
-use Rattle.stack.specs.declared.fault.StackFault.{StackFault}
-use Rattle.stack.specs.Stacks.{contents}
-use Rattle.boxes.specs.Order.{no_trial}
 use Rattle.trials.specs.declared.board.Board.{Board}
-use Rattle.trials.specs.Trials.{worded, nth_word}
-use Rattle.trials.specs.Boards.{Open, RefutedAt, ImpliedAt, Ready, SameBoxes, Below, BackedUp}
-use Rattle.trials.proofs.Nodes.{backed}
+use Rattle.trials.specs.Trials.{unworded, nth_word}
+use Rattle.trials.specs.Boards.{Open, RefutedAt, ImpliedAt, Ready, SameLoans, Below}
 use Rattle.packing.specs.Descent.{Reached, Unarranged, Explored, Restored}
 use Rattle.packing.proofs.Above.{none_up, set_back, reached_up}
 
 module _ {T P : Type 0} where
-  pub restored_on : (a b c : Board T P) → Restored a b → Restored b c → Restored a c
-  restored_on a b c s t = record { axes = t.axes ∙ s.axes; trail = t.trail ∙ s.trail; boxes = (t.boxes.0 ∙ s.boxes.0, t.boxes.1 ∙ s.boxes.1) }
-
   -- b, with the word put b₁, and b₂ after the descent from there
-  module _ (ht hp : ℕ) (b : Board T P) (ready : Ready ht hp b) (k : ℕ) (open_at : Open b k) (w : Word) (b₁ b₂ : Board T P) (below : Below ht hp k w b b₁) (put : SameBoxes b b₁) where
+  module _ (ht hp : ℕ) (b : Board T P) (ready : Ready ht hp b) (k : ℕ) (open_at : Open b k) (w : Word) (b₁ b₂ : Board T P) (below : Below ht hp k w b b₁) (put : SameLoans b b₁) where
     pub found_above : (b₃ : Board T P) → Reached b₁.axes.now b₁.sizes.now b₁.trials.now b₂.trials.now b₂.places.now → b₃.trials.now ≡ b₂.trials.now → b₃.places.now ≡ b₂.places.now
         → Reached b.axes.now b.sizes.now b.trials.now b₃.trials.now b₃.places.now
     found_above b₃ r et ep =
@@ -28,8 +20,10 @@ module _ {T P : Type 0} where
     pub none_above : Unarranged b₁ → RefutedAt b k w
     none_above none = none_up b.axes.now b.sizes.now b.trials.now ready.node k open_at.0 w b₁.axes.now below.bound b₁.trials.now below.tried (rw (sym put.0) none)
 
-    pub reopened : b₂.trials.now ≡ b₁.trials.now → set b₂.trials.now k (get_or b.trials.now k no_trial) ≡ b.trials.now
-    reopened same = set_back b.axes.now b.sizes.now b.trials.now ready.node k open_at.0 w b₁.axes.now below.bound b₁.trials.now below.tried b₂.trials.now same
+    -- b₃ with trial k reopened, and b₄ backed up
+    pub reopened : (b₃ b₄ : Board T P) → b₂.trials.now ≡ b₁.trials.now → b₃.trials.now ≡ set b₂.trials.now k (unworded b₂.trials.now k) → b₄.trials.now ≡ b₃.trials.now → b₄.trials.now ≡ b.trials.now
+    reopened b₃ b₄ same open_again up =
+        up ∙ open_again ∙ set_back b.axes.now b.sizes.now b.trials.now ready.node k open_at.0 w b₁.axes.now below.bound b₁.trials.now below.tried open_at.1 b₂.trials.now same
 
   -- an implied word that no arrangement has leaves none
   pub implied_only : (b b' : Board T P) (k : ℕ) (w : Word) (r : Bool) → ImpliedAt b k (Some w) → Explored (RefutedAt b k w) b b' r → Explored (Unarranged b) b b' r
@@ -37,11 +31,11 @@ module _ {T P : Type 0} where
   implied_only b b' k w false implied e = ((λ x y a. e.0 x y a (implied x y a.timely a.placed)), e.1, e.2)
 
   -- one word more is refuted
-  pub refuted_more : (b b' : Board T P) (k n : ℕ) (d : Word) → n < 4 → b'.trials.now ≡ b.trials.now → Restored b b' → RefutedAt b' k (get_or (Before ∷ After ∷ Nearer ∷ Farther ∷ []) n d)
+  pub refuted_more : (b b' : Board T P) (k n : ℕ) (d : Word) → n < 4 → b'.trials.now ≡ b.trials.now → Restored b b' → SameLoans b b' → RefutedAt b' k (get_or (Before ∷ After ∷ Nearer ∷ Farther ∷ []) n d)
       → ((m : ℕ) → m < n → RefutedAt b k (nth_word m)) → (m : ℕ) → m < n + 1 → RefutedAt b k (nth_word m)
-  refuted_more b b' k n d four trials same refuted below =
+  refuted_more b b' k n d four trials same loans refuted below =
       below_more (λ m. RefutedAt b k (nth_word m)) n below
-      (rw (sym (nth n d four), sym same.axes, sym same.boxes.0, sym trials) refuted) where
+      (rw (sym (nth n d four), sym same.axes, sym loans.0, sym trials) refuted) where
         nth : (n : ℕ) (d : Word) → n < 4 → get_or (Before ∷ After ∷ Nearer ∷ Farther ∷ []) n d ≡ nth_word n
         nth zero d h = refl
         nth (suc zero) d h = refl

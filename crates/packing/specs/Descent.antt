@@ -10,7 +10,6 @@ use Rattle.boxes.specs.Order.{pair_of, no_trial}
 use Rattle.boxes.specs.Arranged.{step_of, metre_of, KeepsWords, NoArrangement}
 use Rattle.moves.specs.Meanings.{Meanings}
 use Rattle.trials.specs.declared.board.Board.{Board}
-use Rattle.trials.specs.Boards.{SameBoxes}
 
 -- places for all boxes, least under the words of all pairs, those that were there among them
 pub record Reached (axes : Meanings) (sizes : List Size) (before after : List Trial) (places : List Place) : Type 0 where
@@ -37,4 +36,3 @@ module _ {T P : Type 0} where
   pub record Restored (b b' : Board T P) : Type 0 where
     pub axes : b'.axes.now ≡ b.axes.now
     pub trail : contents b'.trail.now ≡ contents b.trail.now
-    pub boxes : SameBoxes b b'

@@ -50,7 +50,6 @@ fn attempt<T: Axis, P: Axis>(board: &mut Board<'_, '_, T, P>, k: usize, word: Wo
     ensures same { Restored board.old board.new }
     ensures loans { SameLoans board.old board.new }
 {
-    let pair = board.trials()[k];
     if !board.enter(k, word) {
         return false;
     }
@@ -58,7 +57,7 @@ fn attempt<T: Axis, P: Axis>(board: &mut Board<'_, '_, T, P>, k: usize, word: Wo
         let _ = board.back_up();
         return true;
     }
-    board.reopen(k, pair);
+    board.reopen(k);
     let _ = board.back_up();
     false
 }

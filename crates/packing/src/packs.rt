@@ -3,6 +3,7 @@ ghost use Rattle.std.specs.Prelude.{◌≡◌, ◌≤◌, length, Some, codes};
 ghost use Rattle.axis.specs.Meaning.{lines};
 ghost use Rattle.boxes.specs.Overlaps.{Sized};
 ghost use Rattle.boxes.specs.Order.{pairs};
+ghost use Rattle.trials.specs.Boards.{Fits};
 ghost use Rattle.packing.specs.Packs.{Filled, Packed};
 
 use crate::descent::descend;
@@ -37,11 +38,7 @@ fn fill<T: Axis, P: Axis>(
     places: &mut [Place],
     trials: &mut [Trial],
 ) -> Result<u64, NoArrangement>
-    requires sized { Sized sizes.now }
-    requires timed { lines axes.old.time ≡ length sizes.now }
-    requires placed { lines axes.old.platform ≡ length sizes.now }
-    requires few { (length axes.old.time.bounds ≤ 24) × (length axes.old.platform.bounds ≤ 24) }
-    requires buffers { (length places.old ≡ length sizes.now) × (length trials.old ≡ pairs (length sizes.now)) }
+    requires fits { Fits axes.old sizes.now places.old trials.old }
     ensures answer { Filled axes.old sizes.now places.old places.new trials.new result }
     ensures same { axes.new ≡ axes.old }
 {

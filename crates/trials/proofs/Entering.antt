@@ -1,14 +1,12 @@
 -- A board and the one below it.
-use Rattle.std.proofs.Common.{◌≡◌, ℕ, ◌+◌, ◌<◌, [], ◌∷◌, ◌++◌, length, set, sym, ap, ◌∙◌, subst, arith}
+use Rattle.std.proofs.Common.{◌≡◌, ℕ, ◌+◌, ◌<◌, [], ◌∷◌, ◌++◌, length, set, ap, ◌∙◌, arith}
 use Rattle.std.proofs.lemmas.List.{length_push}
 use Rattle.stack.specs.declared.elements.Word.{Word}
-use Rattle.stack.specs.declared.elements.Trial.{Trial}
 use Rattle.stack.specs.Stacks.{contents, memory}
-use Rattle.boxes.specs.declared.model.Size.{Size}
-use Rattle.moves.specs.Meanings.{Meanings, grown}
+use Rattle.moves.specs.Meanings.{grown}
 use Rattle.trials.specs.declared.board.Board.{Board}
-use Rattle.trials.specs.Trials.{open_count, Node, Room, worded, entry_of}
-use Rattle.trials.specs.Boards.{Open, Ready, SameBoxes, Below}
+use Rattle.trials.specs.Trials.{open_count, worded, entry_of}
+use Rattle.trials.specs.Boards.{Open, Ready, SameLoans, Below}
 use Rattle.trials.proofs.Nodes.{open_some, node_below, room_below, open_falls}
 
 module _ {T P : Type 0} (ht hp : ℕ) (b : Board T P) (ready : Ready ht hp b) (k : ℕ) (open_at : Open b k) where
@@ -19,7 +17,7 @@ module _ {T P : Type 0} (ht hp : ℕ) (b : Board T P) (ready : Ready ht hp b) (k
       let r = ready.room in
       (omega (arith, r.in_time), omega (arith, r.on_platform), omega (arith, r.on_trail))
 
-  pub below : (w : Word) (b' : Board T P) → SameBoxes b b' → b'.places.now ≡ b.places.now
+  pub below : (w : Word) (b' : Board T P) → SameLoans b b' → b'.places.now ≡ b.places.now
       → b'.axes.now ≡ grown b.axes.now (entry_of b.sizes.now b.trials.now k w) → b'.trials.now ≡ set b.trials.now k (worded b.trials.now k w) → contents b'.trail.now ≡ contents b.trail.now ++ worded b.trials.now k w ∷ []
       → Below ht hp k w b b'
   below w b' same places bound tried noted = record {

@@ -1,7 +1,7 @@
 -- A node and the one below it: a word more stands, and it can be taken back.
-use Rattle.std.proofs.Common.{◌≡◌, ℕ, zero, suc, ◌+◌, ◌<◌, ◌≤◌, List, [], ◌∷◌, ◌++◌, map, length, get_or, set, ℤ, Some, None, Ok, Err, Option, Result, sym, refl, ap, ◌∙◌, subst, arith}
+use Rattle.std.proofs.Common.{◌≡◌, ℕ, zero, suc, ◌+◌, ◌<◌, ◌≤◌, List, [], ◌∷◌, map, length, get_or, set, ℤ, Some, None, Ok, Err, Option, Result, sym, refl, ap, ◌∙◌, subst, arith}
 use Rattle.std.specs.List.{ContainsAt}
-use Rattle.std.proofs.lemmas.List.{length-map, get_or-map, set-get_or, map-set, length_push, same_from_push}
+use Rattle.std.proofs.lemmas.List.{length-map, get_or-map, set-get_or, map-set}
 use Rattle.std.proofs.ByRecursion.{has_get_or, has_push, has_append_left, All-set, All-weaker}
 use Rattle.stack.specs.declared.elements.Word.{Word}
 use Rattle.stack.specs.declared.elements.Word.TheVariants.{Before, After, Nearer, Farther}
@@ -21,8 +21,8 @@ use Rattle.boxes.proofs.Ordered.{order_within}
 use Rattle.moves.specs.Meanings.{Meanings, along, grown}
 use Rattle.moves.specs.declared.moves.Standing.TheVariants.{Implied, Possible, Impossible}
 use Rattle.moves.specs.declared.moves.Standing.{Standing}
-use Rattle.moves.specs.Moves.{PutOn, BackOn, Told}
-use Rattle.moves.proofs.Grown.{put_refutes, put_grows, told_refutes, told_kept, back_grown, grown_lines, grown_length}
+use Rattle.moves.specs.Moves.{PutOn, Told}
+use Rattle.moves.proofs.Grown.{put_refutes, put_grows, told_refutes, told_kept, grown_lines, grown_length}
 use Rattle.trials.specs.Trials.{open_one, open_count, StandsWord, Stands, Node, Room, Refuted, side, ToldWord, worded, entry_of}
 
 -- one trial has its word
@@ -130,10 +130,3 @@ module _ (m : Meanings) (sizes : List Size) (ts : List Trial) (node : Node m siz
           on_platform = let a = r.on_platform in omega (arith, g.1);
           on_trail = let a = r.on_trail in omega arith;
         }
-
-    -- backing up from below
-    pub backed : (trail above : List Trial) (x : Trial) (n m' : Meanings) (r : Result Unit AxisFault) → n ≡ grown m (entry_of sizes ts k w) → trail ++ worded ts k w ∷ [] ≡ above ++ x ∷ [] → BackOn (side x.word) n r m' → (m' ≡ m) × (above ≡ trail)
-    backed trail above x n m' r g e b =
-        let s = same_from_push above trail x (worded ts k w) (sym e) in
-        let d : side x.word ≡ entry.direction = ap (λ (u : Trial). side u.word) s.1 ∙ side_is sizes _ _ w in
-        (back_grown m entry.bound entry.direction n m' r g (subst (λ d. BackOn d n r m') d b), s.0)

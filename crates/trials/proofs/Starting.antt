@@ -9,7 +9,7 @@ use Rattle.boxes.specs.Order.{Pair, pairs, trial_order, pair_of, untried}
 use Rattle.boxes.proofs.Ordered.{length_order, pairs_few}
 use Rattle.moves.specs.Meanings.{Meanings}
 use Rattle.trials.specs.declared.board.Board.{Board}
-use Rattle.trials.specs.Boards.{Fits, Ready}
+use Rattle.trials.specs.Boards.{Fits, NoWords, Ready}
 use Rattle.trials.specs.Trials.{open_count, Stands, Node, Room}
 
 pairs_laid : (xs : List Pair) → map pair_of (map untried xs) ≡ xs
@@ -40,14 +40,14 @@ module _ (m : Meanings) (sizes : List Size) (ts : List Trial) (laid : ts ≡ map
       let p = pairs_few (length sizes) few in
       record { in_time = omega arith; on_platform = omega arith; on_trail = omega arith }
 
-pub ready_start : {T P : Type 0} (ht hp : ℕ) (b : Board T P) (trials : List Trial) (n : ℕ) → 90 ≤ ht → 90 ≤ hp → Fits b.axes.now b.sizes.now b.places.now trials b.trail.now
-    → n ≡ length b.sizes.now → n ≤ 12 → b.trials.now ≡ map untried (trial_order n) → Ready ht hp b
-ready_start ht hp b trials n rt rp fits count few laid =
+pub ready_start : {T P : Type 0} (ht hp : ℕ) (b : Board T P) (trials : List Trial) (n : ℕ) → 90 ≤ ht → 90 ≤ hp → Fits b.axes.now b.sizes.now b.places.now trials
+    → n ≡ length b.sizes.now → n ≤ 12 → b.trials.now ≡ map untried (trial_order n) → NoWords b.trail.now → Ready ht hp b
+ready_start ht hp b trials n rt rp fits count few laid blank =
     let less : length b.sizes.now ≤ 12 = omega arith in
     let l : b.trials.now ≡ map untried (trial_order (length b.sizes.now)) = laid ∙ ap (λ n. map untried (trial_order n)) count in
     record {
       node = node_start b.axes.now b.sizes.now b.trials.now l fits.sized fits.timed fits.placed;
-      room = room_start b.axes.now b.sizes.now b.trials.now l ht hp _ _ less rt rp fits.few.0 fits.few.1 (ap length fits.no_words.0) fits.no_words.1;
+      room = room_start b.axes.now b.sizes.now b.trials.now l ht hp _ _ less rt rp fits.few.0 fits.few.1 (ap length blank.0) blank.1;
       few = less;
       for_each = fits.for_each;
     }

@@ -17,15 +17,18 @@ use Rattle.moves.specs.Moves.{BackOn}
 use Rattle.trials.specs.Trials.{open_count, Node, Room, Refuted, ImpliedWord, side, worded, entry_of}
 use Rattle.trials.specs.declared.board.Board.{Board}
 
--- boxes on axes that have a line for each and at most 24 bounds; a place for each box, a record for each pair, and an empty trail
-pub record Fits (axes : Meanings) (sizes : List Size) (places : List Place) (trials : List Trial) (trail : Stack Trial) : Type 0 where
+-- boxes on axes that have a line for each and at most 24 bounds; a place for each box, and a record for each pair
+pub record Fits (axes : Meanings) (sizes : List Size) (places : List Place) (trials : List Trial) : Type 0 where
   pub sized : Sized sizes
   pub timed : lines axes.time ≡ length sizes
   pub placed : lines axes.platform ≡ length sizes
   pub few : (length axes.time.bounds ≤ 24) × (length axes.platform.bounds ≤ 24)
   pub for_each : length places ≡ length sizes
   pub for_pairs : length trials ≡ pairs (length sizes)
-  pub no_words : (contents trail ≡ []) × (length (memory trail) ≡ 66)
+
+-- no words on it yet, and space for twelve boxes
+abbrev pub NoWords : Stack Trial → Type 0
+NoWords trail = (contents trail ≡ []) × (length (memory trail) ≡ 66)
 
 module _ {T P : Type 0} where
   -- the board is on these loans
@@ -51,13 +54,11 @@ module _ {T P : Type 0} where
     pub few : length b.sizes.now ≤ 12
     pub for_each : length b.places.now ≡ length b.sizes.now
 
-  -- both are on the same loans
+  -- the same boxes with as much space for the trail, on the same loans
   abbrev pub SameLoans : Board T P → Board T P → Type 0
-  SameLoans b b' = (b'.axes.ghost_name ≡ b.axes.ghost_name) × (b'.places.ghost_name ≡ b.places.ghost_name) × (b'.trials.ghost_name ≡ b.trials.ghost_name) × (b'.trail.ghost_name ≡ b.trail.ghost_name)
-
-  -- the same boxes, with as much space for the trail
-  abbrev pub SameBoxes : Board T P → Board T P → Type 0
-  SameBoxes b b' = (b'.sizes.now ≡ b.sizes.now) × (length (memory b'.trail.now) ≡ length (memory b.trail.now))
+  SameLoans b b' =
+      (b'.sizes.now ≡ b.sizes.now) × (length (memory b'.trail.now) ≡ length (memory b.trail.now))
+      × (b'.axes.ghost_name ≡ b.axes.ghost_name) × (b'.places.ghost_name ≡ b.places.ghost_name) × (b'.trials.ghost_name ≡ b.trials.ghost_name) × (b'.trail.ghost_name ≡ b.trail.ghost_name)
 
   -- the bound of the word stands, its trial is on the trail, and the descent can go on from there
   pub record Below (most-time most-platform k : ℕ) (w : Word) (b b' : Board T P) : Type 0 where

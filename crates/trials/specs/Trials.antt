@@ -80,6 +80,10 @@ side (Some Farther) = Platform
 abbrev pub worded : List Trial → ℕ → Word → Trial
 worded ts k w = record { i = (slice_index_or ts k no_trial).i; j = (slice_index_or ts k no_trial).j; word = Some w }
 
+-- and with none
+abbrev pub unworded : List Trial → ℕ → Trial
+unworded ts k = record { i = (slice_index_or ts k no_trial).i; j = (slice_index_or ts k no_trial).j; word = None }
+
 abbrev pub entry_of : List Size → List Trial → ℕ → Word → Entry
 entry_of sizes ts k w = ruled sizes (slice_index_or ts k no_trial).i (slice_index_or ts k no_trial).j w
 

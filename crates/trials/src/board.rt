@@ -4,9 +4,10 @@ ghost use Rattle.stack.specs.Stacks.{contents};
 ghost use Rattle.axis.specs.Meaning.{Earliest};
 ghost use Rattle.boxes.specs.Order.{no_trial};
 ghost use Rattle.boxes.specs.Arranged.{step_of, metre_of};
-ghost use Rattle.trials.specs.Trials.{Node, ToldWord, entry_of, side};
-ghost use Rattle.trials.specs.Boards.{BackedUp, Entered, Fits, ImpliedAt, OnLoan, Open, Ready, SameBoxes, SameLoans};
+ghost use Rattle.trials.specs.Trials.{Node, PickedBelow, ToldWord, entry_of, side, unworded};
+ghost use Rattle.trials.specs.Boards.{BackedUp, NoWords, Entered, Fits, ImpliedAt, OnLoan, Open, Ready, SameLoans};
 
+use crate::picker::rank_of;
 use axis::Axis;
 use boxes::{Direction, Entry, Place, Size, lay_out, ruling};
 use moves::{Axes, Standing};
@@ -37,31 +38,8 @@ fn side_of(word: Option<Word>) -> Direction
 }
 
 impl<'a, 't, T: Axis, P: Axis> Board<'a, 't, T, P> {
-    pub fn axes(&self) -> &Axes<T, P>
-        ensures { result.now ≡ self.now.axes.now }
-    {
-        self.axes
-    }
-
-    pub fn trials(&self) -> &[Trial]
-        ensures { result.now ≡ self.now.trials.now }
-    {
-        self.trials
-    }
-
     pub fn tries(&self) -> u64 {
         self.tries
-    }
-
-    // The size of that box, counted from 1.
-    pub fn size_of(&self, number: u8) -> Size {
-        self.sizes
-            .get(usize::from(number).wrapping_sub(1))
-            .copied()
-            .unwrap_or(Size {
-                steps: 1,
-                metres: 1,
-            })
     }
 
     // No pair has a word yet, and none was put.
@@ -72,7 +50,8 @@ impl<'a, 't, T: Axis, P: Axis> Board<'a, 't, T, P> {
         trials: &'a mut [Trial],
         trail: &'a mut Stack<'t, Trial>,
     ) -> Board<'a, 't, T, P>
-        requires fits { Fits axes.old sizes.now places.old trials.old trail.old }
+        requires fits { Fits axes.old sizes.now places.old trials.old }
+        requires trail { NoWords trail.old }
         ensures ready { Ready T.Axis.holds P.Axis.holds result }
         ensures lent { OnLoan axes.entry places.entry trials.entry trail.entry result }
         ensures axes { result.axes.now ≡ axes.old }
@@ -90,12 +69,23 @@ impl<'a, 't, T: Axis, P: Axis> Board<'a, 't, T, P> {
         }
     }
 
+    // Which pair to try next.
+    pub fn pick(&self) -> Option<usize>
+        ensures { PickedBelow (length self.now.trials.now) self.now.trials.now result }
+    {
+        self.trials
+            .iter()
+            .enumerate()
+            .filter(|(_, trial)| trial.word.is_none())
+            .min_by_key(|(_, trial)| rank_of(self.axes, self.sizes, **trial))
+            .map(|(k, _)| k)
+    }
+
     // Takes back the newest trial and its bound.
     pub fn back_up(&mut self) -> Result<(), StackFault>
         ensures after { BackedUp self.old self.new result }
         ensures places { self.new.places.now ≡ self.old.places.now }
         ensures trials { self.new.trials.now ≡ self.old.trials.now }
-        ensures boxes { SameBoxes self.old self.new }
         ensures loans { SameLoans self.old self.new }
     {
         let trial = self.trail.pop()?;
@@ -121,7 +111,6 @@ impl<'a, 't, T: Axis, P: Axis> Board<'a, 't, T, P> {
         requires open { Open self.old k }
         ensures after { Entered T.Axis.holds P.Axis.holds k word self.old self.new result }
         ensures places { self.new.places.now ≡ self.old.places.now }
-        ensures boxes { SameBoxes self.old self.new }
         ensures loans { SameLoans self.old self.new }
     {
         let (entry, standing) = self.weigh(k, word);
@@ -155,17 +144,16 @@ impl<'a, 't, T: Axis, P: Axis> Board<'a, 't, T, P> {
         None
     }
 
-    // Trial k is as it was.
-    pub fn reopen(&mut self, k: usize, pair: Trial)
+    // Trial k has no word again.
+    pub fn reopen(&mut self, k: usize)
         requires { k < length self.old.trials.now }
-        ensures trials { self.new.trials.now ≡ slice_set self.old.trials.now k pair }
+        ensures trials { self.new.trials.now ≡ slice_set self.old.trials.now k (unworded self.old.trials.now k) }
         ensures axes { self.new.axes.now ≡ self.old.axes.now }
         ensures places { self.new.places.now ≡ self.old.places.now }
         ensures trail { contents self.new.trail.now ≡ contents self.old.trail.now }
-        ensures boxes { SameBoxes self.old self.new }
         ensures loans { SameLoans self.old self.new }
     {
-        self.trials[k] = pair;
+        self.trials[k].word = None;
     }
 
     // Each box at its least place under the words so far.
@@ -177,7 +165,6 @@ impl<'a, 't, T: Axis, P: Axis> Board<'a, 't, T, P> {
         ensures axes { self.new.axes.now ≡ self.old.axes.now }
         ensures trials { self.new.trials.now ≡ self.old.trials.now }
         ensures trail { contents self.new.trail.now ≡ contents self.old.trail.now }
-        ensures boxes { SameBoxes self.old self.new }
         ensures loans { SameLoans self.old self.new }
     {
         self.axes.place_all(self.places);

@@ -1,11 +1,7 @@
-// Which pair to try next: any open pair would do, and this choice is what makes the descent fast.
-ghost use Rattle.std.specs.Prelude.{length};
-ghost use Rattle.trials.specs.Trials.{PickedBelow};
-
-use crate::board::Board;
+// How urgent an open pair is: any would do, and this choice is what makes the descent fast.
 use axis::Axis;
 use boxes::{Direction, Size};
-use moves::Standing;
+use moves::{Axes, Standing};
 use stack::Trial;
 use std::cmp::Reverse;
 
@@ -51,41 +47,39 @@ fn class_of(standings: [Standing; 4]) -> Class {
     }
 }
 
+// The size of that box, counted from 1.
+fn size_of(sizes: &[Size], number: u8) -> Size {
+    let unit = Size {
+        steps: 1,
+        metres: 1,
+    };
+    sizes
+        .get(usize::from(number).wrapping_sub(1))
+        .copied()
+        .unwrap_or(unit)
+}
+
 fn area(size: Size) -> u32 {
     u32::from(size.steps).saturating_mul(u32::from(size.metres))
 }
 
-impl<'a, 't, T: Axis, P: Axis> Board<'a, 't, T, P> {
-    // Of a word and its mirrored one along that direction.
-    fn weigh_along(&self, direction: Direction, trial: Trial) -> (Standing, Standing) {
-        let out = self.axes().reach(direction, trial.i, trial.j);
-        let back = self.axes().reach(direction, trial.j, trial.i);
+pub fn rank_of<T: Axis, P: Axis>(axes: &Axes<T, P>, sizes: &[Size], trial: Trial) -> Rank {
+    let first = size_of(sizes, trial.i);
+    let second = size_of(sizes, trial.j);
+    // of a word and its mirrored one
+    let weigh = |direction: Direction| {
+        let out = axes.reach(direction, trial.i, trial.j);
+        let back = axes.reach(direction, trial.j, trial.i);
         (
-            standing(out, back, self.size_of(trial.i).along(direction)),
-            standing(back, out, self.size_of(trial.j).along(direction)),
+            standing(out, back, first.along(direction)),
+            standing(back, out, second.along(direction)),
         )
-    }
-
-    fn rank_of(&self, trial: Trial) -> Rank {
-        let (before, after) = self.weigh_along(Direction::Time, trial);
-        let (nearer, farther) = self.weigh_along(Direction::Platform, trial);
-        let first = area(self.size_of(trial.i));
-        let second = area(self.size_of(trial.j));
-        Rank {
-            class: class_of([before, after, nearer, farther]),
-            smaller: Reverse(first.min(second)),
-            larger: Reverse(first.max(second)),
-        }
-    }
-
-    pub fn pick(&self) -> Option<usize>
-        ensures { PickedBelow (length self.now.trials.now) self.now.trials.now result }
-    {
-        self.trials()
-            .iter()
-            .enumerate()
-            .filter(|(_, trial)| trial.word.is_none())
-            .min_by_key(|(_, trial)| self.rank_of(**trial))
-            .map(|(k, _)| k)
+    };
+    let (before, after) = weigh(Direction::Time);
+    let (nearer, farther) = weigh(Direction::Platform);
+    Rank {
+        class: class_of([before, after, nearer, farther]),
+        smaller: Reverse(area(first).min(area(second))),
+        larger: Reverse(area(first).max(area(second))),
     }
 }

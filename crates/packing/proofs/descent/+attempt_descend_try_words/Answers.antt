@@ -1,19 +1,17 @@
-use Rattle.std.proofs.Common.{get_or, set, ap, ◌∙◌, arith, rules}
-use Rattle.boxes.specs.Order.{no_trial}
+use Rattle.std.proofs.Common.{◌∙◌, arith, rules}
 use Rattle.packing.proofs.Above.{reached_all, four_refuted}
-use Rattle.packing.proofs.Climbing.{found_above, none_above, reopened, implied_only, refuted_more, restored_on}
+use Rattle.packing.proofs.Climbing.{found_above, none_above, reopened, implied_only, refuted_more}
 use Rattle.packing.proofs.descent.+attempt_descend_try_words.Goals as goal
 
 pub attempt-returns-then-descend-clause-found : goal.attempt-returns-then-descend-clause-found
 attempt-returns-then-descend-clause-found g t c =
-    found_above _ _ c.args.board.now c.requires.ready c.args.k c.requires.open c.args.word c.enter.new.self c.descend.new.board c.if-not-enter.ensures.after c.enter.ensures.boxes c.back_up.new.self c.if-descend.ensures.found c.back_up.ensures.trials c.back_up.ensures.places
+    found_above _ _ c.args.board.now c.requires.ready c.args.k c.requires.open c.args.word c.enter.new.self c.descend.new.board c.if-not-enter.ensures.after c.enter.ensures.loans c.back_up.new.self c.if-descend.ensures.found c.back_up.ensures.trials c.back_up.ensures.places
 
 pub attempt-returns-clause-found : goal.attempt-returns-clause-found
 attempt-returns-clause-found g t c =
     let none = c.if-descend.ensures.found in (
-      none_above _ _ c.args.board.now c.requires.ready c.args.k c.requires.open c.args.word c.enter.new.self c.descend.new.board c.if-not-enter.ensures.after c.enter.ensures.boxes none.0,
-      c.back_up-2.ensures.trials ∙ c.reopen.ensures.trials ∙ ap (λ ts. set c.descend.new.board.trials.now c.args.k (get_or ts c.args.k no_trial)) c.trials.ensures
-          ∙ reopened _ _ c.args.board.now c.requires.ready c.args.k c.requires.open c.args.word c.enter.new.self c.descend.new.board c.if-not-enter.ensures.after c.enter.ensures.boxes none.1,
+      none_above _ _ c.args.board.now c.requires.ready c.args.k c.requires.open c.args.word c.enter.new.self c.descend.new.board c.if-not-enter.ensures.after c.enter.ensures.loans none.0,
+      reopened _ _ c.args.board.now c.requires.ready c.args.k c.requires.open c.args.word c.enter.new.self c.descend.new.board c.if-not-enter.ensures.after c.enter.ensures.loans c.reopen.new.self c.back_up-2.new.self none.1 c.reopen.ensures.trials c.back_up-2.ensures.trials,
       c.back_up-2.ensures.places ∙ c.reopen.ensures.places ∙ none.2 ∙ c.enter.ensures.places,
     )
 
@@ -28,7 +26,7 @@ pub try_words-loop-word-preserved : goal.try_words-loop-word-preserved
 try_words-loop-word-preserved g t c =
     let so = c.loop-word.invariant in
     let none = c.if-attempt.ensures.found in
-    (none.1 ∙ so.0, none.2 ∙ so.1, restored_on c.args.board.now c.loop-word.board c.attempt.new.board so.2 c.attempt.ensures.same, search rules, refuted_more c.args.board.now c.loop-word.board c.args.k c.loop-word.word-index _ (omega arith) so.0 so.2 none.0 so.4)
+    (none.1 ∙ so.0, none.2 ∙ so.1, search rules, search rules, refuted_more c.args.board.now c.loop-word.board c.args.k c.loop-word.word-index _ (omega arith) so.0 so.2 so.3 none.0 so.4)
 
 pub try_words-returns-clause-found : goal.try_words-returns-clause-found
 try_words-returns-clause-found g t c =
