@@ -1,3 +1,4 @@
+pub mod Extents
 pub mod Ranges
 pub mod Windows
 pub mod Decided

@@ -1,6 +1,7 @@
 // Decides a packing on two axes of any kind.
 ghost use Rattle.std.specs.Prelude.{◌≡◌, ◌≤◌, true, IfOk, OnOk, vec_len};
 ghost use Rattle.boxes.specs.Overlaps.{Sized};
+ghost use Rattle.bench.specs.Extents.{GoodSize};
 ghost use Rattle.bench.specs.Ranges.{lined};
 ghost use Rattle.bench.specs.Decided.{Decided};
 
@@ -13,10 +14,16 @@ use packing::{NoArrangement, pack};
 use stack::{Blank, Trial};
 use std::alloc::Global;
 
+fn is_sized(size: &Size) -> bool
+    ensures { result ≡ true → GoodSize size.now }
+{
+    (1..=2880).contains(&size.steps) && (1..=2880).contains(&size.metres)
+}
+
 fn all_sized(sizes: &[Size]) -> bool
     ensures { result ≡ true → Sized sizes.now }
 {
-    sizes.iter().all(|size| (1..=2880).contains(&size.steps) && (1..=2880).contains(&size.metres))
+    sizes.iter().all(is_sized)
 }
 
 // The lines of the ranges in that direction, and no bounds.
