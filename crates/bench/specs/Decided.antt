@@ -5,7 +5,6 @@ use Rattle.boxes.specs.declared.model.Size.{Size}
 use Rattle.boxes.specs.declared.model.Direction.TheVariants.{Time, Platform}
 use Rattle.boxes.specs.Arranged.{Arrangement, NoArrangement}
 use Rattle.bench.specs.declared.packings.Packing.{Packing}
-use Rattle.bench.specs.declared.packings.Ranged.{Ranged}
 use Rattle.bench.specs.Ranges.{axis_of}
 
 module _ {E : Type 0} where

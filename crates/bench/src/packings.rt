@@ -108,6 +108,7 @@ impl Packing {
             .collect(heap)
     }
 
+    // Kept as two chains: one over a closure for the end needs a clause about its calls that is longer than both.
     pub fn highs(&self, heap: Global, direction: Direction) -> Result<Vec<i16>, AllocError>
         ensures { IfOk result (λ x. x.items ≡ map (λ b. (range_of direction b).high) self.now.boxes.items) }
     {
