@@ -1,18 +1,13 @@
 -- Walks of the distance graph: joined, kept by every placement, and kept when a bound is added.
-use Rattle.std.proofs.Common.{◌≡◌, ℕ, ◌≤◌, [], ◌∷◌, ℤ, pos, ◌+ℤ◌, ◌-ℤ◌, ◌≤ℤ◌, subst, arith}
+use Rattle.std.proofs.Common.{◌≡◌, ℕ, [], ◌∷◌, ℤ, pos, ◌+ℤ◌, ◌-ℤ◌, ◌≤ℤ◌, subst, arith}
 use Rattle.std.proofs.ByRecursion.{has_append_left}
 use Rattle.std.proofs.lemmas.Int.{ints}
 use Rattle.axis.specs.declared.model.Bound.{Bound}
-use Rattle.axis.specs.Meaning.{Meaning, with_bound, lines, Placement, Remains, Edge, bound, down, up, Walk, none, step, NegativeRing}
+use Rattle.axis.specs.Meaning.{Meaning, with_bound, Placement, Remains, Edge, bound, down, up, Walk, none, step, NegativeRing}
 
 pub walk_join : (m : Meaning) (p r q : ℕ) (d e : ℤ) → Walk m p r d → Walk m r q e → Walk m p q (d +ℤ e)
 walk_join m p r q d e (none _ _) w = subst (λ l. Walk m p q l) (let z : e ≡ pos 0 +ℤ e = omega (arith, ints) in z) w
 walk_join m p r q d e (step _ s _ a b x y) w = subst (λ l. Walk m p q l) (let z : a +ℤ (b +ℤ e) ≡ (a +ℤ b) +ℤ e = omega (arith, ints) in z) (step p s q a (b +ℤ e) x (walk_join m s r q b e y w))
-
--- one edge more at the end
-pub walk_push : (m : Meaning) (p r q : ℕ) (d e : ℤ) → Walk m p r d → q ≤ lines m → Edge m r q e → Walk m p q (d +ℤ e)
-walk_push m p r q d e w h x =
-    subst (λ l. Walk m p q l) (let z : d +ℤ (e +ℤ pos 0) ≡ d +ℤ e = omega (arith, ints) in z) (walk_join m p r q d (e +ℤ pos 0) w (step r q q e (pos 0) x (none q h)))
 
 pub edge_kept : (m : Meaning) (v : ℕ → ℤ) → Placement m v → (p q : ℕ) (d : ℤ) → Edge m p q d → (v p -ℤ v q) ≤ℤ d
 edge_kept m v h p q d (bound b x) = h.keeps b x

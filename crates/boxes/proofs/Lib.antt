@@ -1,4 +1,3 @@
 pub mod Lie
 pub mod Ordered
 pub mod Laid
-pub mod Mapped

@@ -14,7 +14,7 @@ mod changes;
 mod ranges;
 mod sums;
 
-pub use sums::{along, lesser};
+pub use sums::along;
 
 #[derive(Drop)]
 pub struct Ledger {

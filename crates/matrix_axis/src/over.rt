@@ -39,6 +39,7 @@ impl Over {
         ensures { Listed self.now.last (λ r. F.post is_nearer r false) (contents result) }
     {
         let mut list = Stack::new(slots);
+        // Kept a range: a line is its number, and the closure looks up what it asks.
         for line in 0..self.last + 1 {
             if is_nearer(line) {
                 let _ = list.push(line as u8);

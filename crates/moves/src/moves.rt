@@ -34,6 +34,7 @@ impl<T: Axis, P: Axis> Model for Axes<T, P> {
     ghost view = { λ a. record { time = T.means a.time; platform = P.means a.platform } };
 }
 
+// Kept as matches on the direction: the two axes are of two types, and a closure would be of one.
 impl<T: Axis, P: Axis> Axes<T, P> {
     pub fn new(time: T, platform: P) -> Axes<T, P>
         ensures { result ≡ record { time = T.means time; platform = P.means platform } }
