@@ -1,5 +1,5 @@
 -- A row of lengths from one line: what it holds at any time, what relaxing edges does to it, and what it tells in the end.
-use Rattle.std.specs.Prelude.{◌≡◌, ℕ, suc, ◌+◌, ◌-◌, ◌<◌, ◌≤◌, Bool, cond, List, [], ◌∷◌, ℤ, pos, negsuc, ◌+ℤ◌, neg_ℤ, ◌≤ℤ◌, ◌<ℤ◌, int_lt, slice_index_or, slice_set}
+use Rattle.std.specs.Prelude.{◌≡◌, ℕ, suc, ◌+◌, ◌-◌, ◌<◌, ◌≤◌, List, [], ◌∷◌, ℤ, pos, negsuc, ◌+ℤ◌, neg_ℤ, ◌≤ℤ◌, ◌<ℤ◌, slice_index_or}
 use Rattle.std.specs.List.{ContainsAt}
 use Rattle.axis.specs.declared.model.Bound.{Bound}
 use Rattle.axis.specs.Meaning.{Meaning, with_bound, lines, low, high, Edge, Remains}
@@ -20,13 +20,6 @@ pub record Found (m : Meaning) (s : ℕ) (row : List ℤ) : Type 0 where
 -- an edge from a line to a line, as long as a bound can be
 abbrev pub IsEdge : Meaning → Bound → Type 0
 IsEdge m b = Edge m b.p b.q b.d × Within (lines m) b
-
--- does the edge make the way to its end shorter?
-abbrev pub shorter : List ℤ → Bound → Bool
-shorter row b = int_lt (entry row b.p +ℤ b.d) (entry row b.q)
-
-abbrev pub relaxed : List ℤ → Bound → List ℤ
-relaxed row b = cond (shorter row b) (slice_set row b.q (entry row b.p +ℤ b.d)) row
 
 -- the edge shortens no way
 abbrev pub Kept : Bound → List ℤ → Type 0
