@@ -12,9 +12,6 @@ pub record ListedBelow (r : ℕ) (Skipped : ℕ → Type 0) (list : List ℕ) : 
   pub within : (x : ℕ) → ContainsAt list x → x < r
 
 module _ (Skipped : ℕ → Type 0) where
-  pub listed_none : ListedBelow 0 Skipped []
-  listed_none = record { few = omega arith; all = λ x h. absurd (omega arith); within = λ x h. let z = h.1 in absurd (omega arith) }
-
   pub listed_skip : (r : ℕ) (list : List ℕ) → ListedBelow r Skipped list → Skipped r → ListedBelow (r + 1) Skipped list
   listed_skip r list l s = record {
     few = let i = l.few in omega arith;

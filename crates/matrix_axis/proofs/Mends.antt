@@ -12,13 +12,6 @@ use Rattle.matrix_axis.specs.Cells.{entry, cell, row_of}
 use Rattle.matrix_axis.specs.Mending.{way, Pending, RowMended, Mended}
 use Rattle.matrix_axis.specs.declared.over.Over.{Over}
 
-pub row_none : (o : Over) (i : ℕ) (row : List ℤ) → RowMended o i [] row row
-row_none o i row = record {
-  lower = λ j. omega (arith, ints);
-  floor = λ j. omega (arith, ints, clamps);
-  done = λ j h. let z = h.1 in absurd (omega arith);
-}
-
 -- one column more
 pub row_more : (o : Over) (i j : ℕ) (columns : List ℕ) (before mid after : List ℤ) (x : ℤ) → j < length mid → RowMended o i columns before mid → x ≡ way o i j → after ≡ set mid j (int_min (entry mid j) x) → RowMended o i (columns ++ j ∷ []) before after
 row_more o i j columns before mid after x lt r e s = record {
@@ -54,13 +47,6 @@ pub record Mending (t : Table) (o : Over) (rows : List ℕ) (now : List (List �
   pub within : (i : ℕ) → ContainsAt rows i → i ≤ o.last
 
 module _ (o : Over) (columns : List ℕ) (start : List (List ℤ)) where
-  pub mending_none : (rows : List ℕ) → Pending (cell start) o rows columns → Mending (cell start) o rows start
-  mending_none rows p = record {
-    between = λ i j h. (omega (arith, ints, clamps), omega (arith, ints));
-    mended = λ i h. p.row i h;
-    within = p.row_within;
-  }
-
   -- the row that is taken off the list is one of the lines
   pub mending_line : (rows more : List ℕ) (i : ℕ) (now : List (List ℤ)) → Mending (cell start) o more now → more ≡ rows ++ i ∷ [] → i ≤ o.last
   mending_line rows more i now m e = m.within i (subst (λ xs. ContainsAt xs i) (sym e) (has_push rows i))
