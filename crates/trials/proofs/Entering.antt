@@ -23,6 +23,7 @@ module _ {T P : Type 0} (ht hp : ℕ) (b : Board T P) (ready : Ready ht hp b) (k
   below w b' same places bound tried noted = record {
     bound = bound;
     tried = tried;
+    places = places;
     noted = noted;
     ready = record {
       node = rw (bound, tried, same.0) (node_below b.axes.now b.sizes.now b.trials.now ready.node k open_at.0 w);

@@ -7,14 +7,15 @@ use Rattle.stack.specs.declared.fault.StackFault.{StackFault}
 use Rattle.stack.specs.Stacks.{contents, memory}
 use Rattle.stack.specs.declared.Stack.{Stack}
 use Rattle.axis.specs.declared.model.AxisFault.{AxisFault}
-use Rattle.axis.specs.Meaning.{lines}
+use Rattle.axis.specs.Meaning.{lines, Earliest}
 use Rattle.boxes.specs.declared.model.Size.{Size}
 use Rattle.boxes.specs.declared.model.Place.{Place}
 use Rattle.boxes.specs.Overlaps.{Sized}
 use Rattle.boxes.specs.Order.{pairs, no_trial}
+use Rattle.boxes.specs.Arranged.{step_of, metre_of}
 use Rattle.moves.specs.Meanings.{Meanings, grown}
 use Rattle.moves.specs.Moves.{BackOn}
-use Rattle.trials.specs.Trials.{open_count, Node, Room, Refuted, ImpliedWord, side, worded, entry_of}
+use Rattle.trials.specs.Trials.{open_count, Node, Room, Refuted, ImpliedWord, side, worded, unworded, entry_of}
 use Rattle.trials.specs.declared.board.Board.{Board}
 
 -- boxes on axes that have a line for each and at most 24 bounds; a place for each box, and a record for each pair
@@ -60,10 +61,17 @@ module _ {T P : Type 0} where
       (b'.sizes.now ≡ b.sizes.now) × (length (memory b'.trail.now) ≡ length (memory b.trail.now))
       × (b'.axes.ghost_name ≡ b.axes.ghost_name) × (b'.places.ghost_name ≡ b.places.ghost_name) × (b'.trials.ghost_name ≡ b.trials.ghost_name) × (b'.trail.ghost_name ≡ b.trail.ghost_name)
 
+  pub record Unchanged (b b' : Board T P) : Type 0 where
+    pub axes : b'.axes.now ≡ b.axes.now
+    pub trials : b'.trials.now ≡ b.trials.now
+    pub places : b'.places.now ≡ b.places.now
+    pub trail : contents b'.trail.now ≡ contents b.trail.now
+
   -- the bound of the word stands, its trial is on the trail, and the descent can go on from there
   pub record Below (most-time most-platform k : ℕ) (w : Word) (b b' : Board T P) : Type 0 where
     pub bound : b'.axes.now ≡ grown b.axes.now (entry_of b.sizes.now b.trials.now k w)
     pub tried : b'.trials.now ≡ slice_set b.trials.now k (worded b.trials.now k w)
+    pub places : b'.places.now ≡ b.places.now
     pub noted : contents b'.trail.now ≡ contents b.trail.now ++ worded b.trials.now k w ∷ []
     pub ready : Ready most-time most-platform b'
     pub falls : open_count b'.trials.now + 1 ≡ open_count b.trials.now
@@ -71,9 +79,30 @@ module _ {T P : Type 0} where
   -- so it is, or nothing has changed and no arrangement has the word
   abbrev pub Entered : ℕ → ℕ → ℕ → Word → Board T P → Board T P → Bool → Type 0
   Entered ht hp k w b b' true = Below ht hp k w b b'
-  Entered ht hp k w b b' false = RefutedAt b k w × (b'.axes.now ≡ b.axes.now) × (b'.trials.now ≡ b.trials.now) × (contents b'.trail.now ≡ contents b.trail.now)
+  Entered ht hp k w b b' false = RefutedAt b k w × Unchanged b b'
+
+  abbrev pub NewestGone : Board T P → Board T P → Result (Unit {0}) StackFault → Type 0
+  NewestGone b b' (Ok _) = (x : Trial) × ((contents b.trail.now ≡ contents b'.trail.now ++ x ∷ []) × ((r : Result Unit AxisFault) × BackOn (side x.word) b.axes.now r b'.axes.now))
+  NewestGone b b' (Err _) = contents b.trail.now ≡ []
 
   -- the newest record is gone, and a bound from its axis
-  abbrev pub BackedUp : Board T P → Board T P → Result (Unit {0}) StackFault → Type 0
-  BackedUp b b' (Ok _) = (x : Trial) × ((contents b.trail.now ≡ contents b'.trail.now ++ x ∷ []) × ((r : Result Unit AxisFault) × BackOn (side x.word) b.axes.now r b'.axes.now))
-  BackedUp b b' (Err _) = contents b.trail.now ≡ []
+  pub record BackedUp (b b' : Board T P) (result : Result (Unit {0}) StackFault) : Type 0 where
+    pub newest : NewestGone b b' result
+    pub trials : b'.trials.now ≡ b.trials.now
+    pub places : b'.places.now ≡ b.places.now
+
+  -- trial k has no word again, and nothing else has changed
+  pub record Reopened (k : ℕ) (b b' : Board T P) : Type 0 where
+    pub trials : b'.trials.now ≡ slice_set b.trials.now k (unworded b.trials.now k)
+    pub axes : b'.axes.now ≡ b.axes.now
+    pub places : b'.places.now ≡ b.places.now
+    pub trail : contents b'.trail.now ≡ contents b.trail.now
+
+  -- each box stands at its earliest step and its nearest metre, and nothing else has changed
+  pub record Placed (b b' : Board T P) : Type 0 where
+    pub timely : Earliest b.axes.now.time (step_of b'.places.now)
+    pub nearest : Earliest b.axes.now.platform (metre_of b'.places.now)
+    pub for_each : length b'.places.now ≡ length b.sizes.now
+    pub axes : b'.axes.now ≡ b.axes.now
+    pub trials : b'.trials.now ≡ b.trials.now
+    pub trail : contents b'.trail.now ≡ contents b.trail.now

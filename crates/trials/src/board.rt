@@ -1,11 +1,8 @@
 // What is done with one word for one pair: judged, its bound put with the trial noted, and taken back.
-ghost use Rattle.std.specs.Prelude.{◌≡◌, ◌<◌, true, length, Some, slice_index_or, slice_set};
-ghost use Rattle.stack.specs.Stacks.{contents};
-ghost use Rattle.axis.specs.Meaning.{Earliest};
+ghost use Rattle.std.specs.Prelude.{◌≡◌, ◌<◌, true, length, Some, slice_index_or};
 ghost use Rattle.boxes.specs.Order.{no_trial};
-ghost use Rattle.boxes.specs.Arranged.{step_of, metre_of};
-ghost use Rattle.trials.specs.Trials.{Node, PickedBelow, ToldWord, entry_of, side, unworded};
-ghost use Rattle.trials.specs.Boards.{BackedUp, NoWords, Entered, Fits, ImpliedAt, OnLoan, Open, Ready, SameLoans};
+ghost use Rattle.trials.specs.Trials.{Node, PickedBelow, ToldWord, entry_of, side};
+ghost use Rattle.trials.specs.Boards.{BackedUp, NoWords, Entered, Fits, ImpliedAt, OnLoan, Open, Placed, Ready, Reopened, SameLoans};
 
 use crate::picker::rank_of;
 use axis::Axis;
@@ -84,8 +81,6 @@ impl<'a, 't, T: Axis, P: Axis> Board<'a, 't, T, P> {
     // Takes back the newest trial and its bound.
     pub fn back_up(&mut self) -> Result<(), StackFault>
         ensures after { BackedUp self.old self.new result }
-        ensures places { self.new.places.now ≡ self.old.places.now }
-        ensures trials { self.new.trials.now ≡ self.old.trials.now }
         ensures loans { SameLoans self.old self.new }
     {
         let trial = self.trail.pop()?;
@@ -110,7 +105,6 @@ impl<'a, 't, T: Axis, P: Axis> Board<'a, 't, T, P> {
         requires ready { Ready T.Axis.MOST P.Axis.MOST self.old }
         requires open { Open self.old k }
         ensures after { Entered T.Axis.MOST P.Axis.MOST k word self.old self.new result }
-        ensures places { self.new.places.now ≡ self.old.places.now }
         ensures loans { SameLoans self.old self.new }
     {
         let (entry, standing) = self.weigh(k, word);
@@ -147,10 +141,7 @@ impl<'a, 't, T: Axis, P: Axis> Board<'a, 't, T, P> {
     // Trial k has no word again.
     pub fn reopen(&mut self, k: usize)
         requires { k < length self.old.trials.now }
-        ensures trials { self.new.trials.now ≡ slice_set self.old.trials.now k (unworded self.old.trials.now k) }
-        ensures axes { self.new.axes.now ≡ self.old.axes.now }
-        ensures places { self.new.places.now ≡ self.old.places.now }
-        ensures trail { contents self.new.trail.now ≡ contents self.old.trail.now }
+        ensures after { Reopened k self.old self.new }
         ensures loans { SameLoans self.old self.new }
     {
         self.trials[k].word = None;
@@ -159,12 +150,7 @@ impl<'a, 't, T: Axis, P: Axis> Board<'a, 't, T, P> {
     // Each box at its least place under the words so far.
     pub fn place_all(&mut self)
         requires ready { Ready T.Axis.MOST P.Axis.MOST self.old }
-        ensures timely { Earliest self.old.axes.now.time (step_of self.new.places.now) }
-        ensures nearest { Earliest self.old.axes.now.platform (metre_of self.new.places.now) }
-        ensures for_each { length self.new.places.now ≡ length self.old.sizes.now }
-        ensures axes { self.new.axes.now ≡ self.old.axes.now }
-        ensures trials { self.new.trials.now ≡ self.old.trials.now }
-        ensures trail { contents self.new.trail.now ≡ contents self.old.trail.now }
+        ensures after { Placed self.old self.new }
         ensures loans { SameLoans self.old self.new }
     {
         self.axes.place_all(self.places);

@@ -7,7 +7,7 @@ pub returns-in-Err-clause-after : goal.returns-in-Err-clause-after
 returns-in-Err-clause-after g c =
     let s = spaces _ _ c.args.self.now c.requires.ready c.args.k c.requires.open in
     let r = put_refuted _ _ _ c.requires.ready.node c.args.k c.requires.open.0 c.args.word _ c.weigh-standing.ensures.entry _ _ _ c.in-Err.field-0 s.0 s.1 c.in-Err.ensures in
-    (r.0, r.1, refl, refl)
+    (r.0, record { axes = r.1; trials = refl; places = refl; trail = refl })
 
 pub returns-clause-after : goal.returns-clause-after
 returns-clause-after g c =
