@@ -7,9 +7,10 @@ ghost use Rattle.axis.specs.Asks.{Put, Back, Reset, Tight, Valid};
 
 mod faults;
 mod model;
+mod ranges;
 mod theory;
 
-pub use model::{AxisFault, Bound};
+pub use model::{AxisFault, Bound, Range};
 pub use theory::{distances_hold, earliest, latest};
 
 // Every call asks its questions in order; the first answered no gives the refusal, and a refused call changes nothing.

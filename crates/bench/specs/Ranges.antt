@@ -5,7 +5,7 @@ use Rattle.boxes.specs.declared.model.Direction.{Direction}
 use Rattle.boxes.specs.declared.model.Direction.TheVariants.{Time, Platform}
 use Rattle.boxes.specs.Overlaps.{in_direction}
 use Rattle.moves.specs.Meanings.{Meanings}
-use Rattle.bench.specs.declared.packings.Range.{Range}
+use Rattle.axis.specs.declared.model.Range.{Range}
 use Rattle.bench.specs.declared.packings.Ranged.{Ranged}
 
 abbrev pub range_of : Direction → Ranged → Range

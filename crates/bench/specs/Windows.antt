@@ -1,7 +1,7 @@
 -- The ranges of boxes with windows.
 use Rattle.std.specs.Prelude.{◌≡◌, ℕ, ◌-◌, min, cond, List, map, ℤ, pos, negsuc, vec_items, nat_le}
 use Rattle.bench.specs.declared.packings.Packing.{Packing}
-use Rattle.bench.specs.declared.packings.Range.{Range}
+use Rattle.axis.specs.declared.model.Range.{Range}
 use Rattle.bench.specs.declared.packings.Ranged.{Ranged}
 use Rattle.bench.specs.declared.packings.Stay.{Stay}
 

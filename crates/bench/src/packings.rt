@@ -3,6 +3,7 @@ ghost use Rattle.std.specs.Prelude.{◌≡◌, map, IfOk};
 ghost use Rattle.bench.specs.Ranges.{range_of};
 ghost use Rattle.bench.specs.Windows.{on_axis, last_place, window, ranged, Packs};
 
+use axis::Range;
 use boxes::{Direction, Size};
 use std::alloc::{AllocError, Global};
 
@@ -12,13 +13,6 @@ pub struct Stay {
     pub size: Size,
     pub first: u16,
     pub gone: u16,
-}
-
-// From the low to the high.
-#[derive(Clone, Copy)]
-pub struct Range {
-    pub low: i16,
-    pub high: i16,
 }
 
 // A box with the steps at which it may come, and the metres at which it may begin.
@@ -74,10 +68,7 @@ impl Ranged {
     pub fn range(&self, direction: Direction) -> Range
         ensures { result ≡ range_of direction self.now }
     {
-        match direction {
-            Direction::Time => self.steps,
-            Direction::Platform => self.metres,
-        }
+        direction.pick(self.steps, self.metres)
     }
 }
 

@@ -16,10 +16,7 @@ impl Size {
     pub fn along(self, direction: Direction) -> u16
         ensures { result ≡ in_direction self.steps self.metres direction }
     {
-        match direction {
-            Direction::Time => self.steps,
-            Direction::Platform => self.metres,
-        }
+        direction.pick(self.steps, self.metres)
     }
 }
 
@@ -34,6 +31,18 @@ pub struct Place {
 pub enum Direction {
     Time,
     Platform,
+}
+
+impl Direction {
+    // Of a value for each axis, the one for this.
+    pub fn pick<V: Copy>(self, time: V, platform: V) -> V
+        ensures { result ≡ in_direction time platform self }
+    {
+        match self {
+            Direction::Time => time,
+            Direction::Platform => platform,
+        }
+    }
 }
 
 // A bound on one of the two axes.

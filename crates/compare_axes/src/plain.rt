@@ -2,9 +2,8 @@
 ghost use Rattle.std.specs.Prelude.{◌≡◌, ◌-◌, ◌≤◌, Ok, Err, OnOk, if◌then◌else◌, vec_len, nat_eq};
 
 use crate::calls::{Answer, Call, LINES, Told};
-use crate::ranges::Range;
 use crate::shortest::Lengths;
-use axis::{AxisFault, Bound};
+use axis::{AxisFault, Bound, Range};
 use std::alloc::{AllocError, Global};
 
 #[derive(Drop)]

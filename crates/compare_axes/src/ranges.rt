@@ -4,14 +4,8 @@ ghost use Rattle.std.specs.Prelude.{◌≡◌, length, IfOk, vec_len};
 use crate::calls::{Call, LINES};
 use crate::manner::Manner;
 use crate::random::Random;
+use axis::Range;
 use std::alloc::{AllocError, Global};
-
-// The values of a line, from the low to the high.
-#[derive(Clone, Copy)]
-pub struct Range {
-    pub low: i16,
-    pub high: i16,
-}
 
 const ZERO: Range = Range { low: 0, high: 0 };
 
@@ -35,14 +29,12 @@ const BAD: [Range; 5] = [
     },
 ];
 
-impl Range {
-    fn around(value: i16, manner: &Manner, random: &mut Random) -> Range {
-        let below = random.below(manner.reach + 1) as i16;
-        let above = random.below(manner.reach + 1) as i16;
-        Range {
-            low: value.saturating_sub(below).max(0),
-            high: value.saturating_add(above).min(2880),
-        }
+fn around(value: i16, manner: &Manner, random: &mut Random) -> Range {
+    let below = random.below(manner.reach + 1) as i16;
+    let above = random.below(manner.reach + 1) as i16;
+    Range {
+        low: value.saturating_sub(below).max(0),
+        high: value.saturating_add(above).min(2880),
     }
 }
 
@@ -56,7 +48,7 @@ pub fn ranges_around(
 {
     values
         .iter()
-        .map(|value| Range::around(*value, manner, random))
+        .map(|value| around(*value, manner, random))
         .collect(heap)
 }
 

@@ -2,8 +2,8 @@
 use crate::calls::{Call, LINES};
 use crate::manner::Manner;
 use crate::random::Random;
-use crate::ranges::{Range, ranges_around, reset_to, spoiled_reset};
-use axis::Bound;
+use crate::ranges::{ranges_around, reset_to, spoiled_reset};
+use axis::{Bound, Range};
 use std::alloc::{AllocError, Global};
 
 // Lengths at the limits and past them.

@@ -5,6 +5,7 @@ ghost use Rattle.journal.specs.Journal.{low_on, high_on};
 ghost use Rattle.journal.specs.Asks.{Extents};
 
 use crate::model::Stay;
+use axis::Range;
 use boxes::Direction;
 
 #[derive(Drop)]
@@ -19,17 +20,20 @@ pub struct Loading<'a> {
 
 impl Loading<'_> {
     // The lowest and the highest value of the stay's line.
-    pub(crate) fn range_of(&self, direction: Direction, stay: Stay) -> (i16, i16)
+    pub(crate) fn range_of(&self, direction: Direction, stay: Stay) -> Range
         requires { GoodStay self.now.span self.now.platform stay }
-        ensures low { result.0 ≡ low_on direction stay }
-        ensures high { result.1 ≡ high_on direction self.now.span self.now.platform stay }
+        ensures low { result.low ≡ low_on direction stay }
+        ensures high { result.high ≡ high_on direction self.now.span self.now.platform stay }
     {
         match direction {
-            Direction::Time => (
-                stay.opening() as i16,
-                less(stay.closing(self.span), stay.steps()),
-            ),
-            Direction::Platform => (0, less(self.platform, stay.metres)),
+            Direction::Time => Range {
+                low: stay.opening() as i16,
+                high: less(stay.closing(self.span), stay.steps()),
+            },
+            Direction::Platform => Range {
+                low: 0,
+                high: less(self.platform, stay.metres),
+            },
         }
     }
 }

@@ -25,9 +25,9 @@ impl Ranges {
         self.lows.clear();
         self.highs.clear();
         for stay in loading.stays {
-            let (low, high) = loading.range_of(direction, *stay);
-            self.lows.push(low);
-            self.highs.push(high);
+            let range = loading.range_of(direction, *stay);
+            self.lows.push(range.low);
+            self.highs.push(range.high);
         }
     }
 

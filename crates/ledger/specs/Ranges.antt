@@ -1,6 +1,6 @@
 -- The lows and the highs of a table of ranges.
 use Rattle.std.specs.Prelude.{List, ℤ, map}
-use Rattle.ledger.specs.declared.ranges.Range.{Range}
+use Rattle.axis.specs.declared.model.Range.{Range}
 
 abbrev pub every_low : List Range → List ℤ
 every_low rs = map (λ r. r.low) rs

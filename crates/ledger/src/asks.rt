@@ -6,8 +6,7 @@ ghost use Rattle.axis.specs.Distance.{base};
 ghost use Rattle.ledger.specs.Means.{means, Names, Admits};
 
 use crate::Ledger;
-use crate::ranges::Range;
-use axis::{AxisFault, Bound};
+use axis::{AxisFault, Bound, Range};
 
 impl Ledger {
     pub fn lines(&self) -> usize

@@ -7,8 +7,7 @@ ghost use Rattle.ledger.specs.Means.{means, Gone};
 ghost use Rattle.ledger.specs.Ranges.{every_low, every_high};
 
 use crate::Ledger;
-use crate::ranges::Range;
-use axis::{AxisFault, Bound};
+use axis::{AxisFault, Bound, Range};
 use held::Held;
 use std::alloc::{AllocError, Global};
 

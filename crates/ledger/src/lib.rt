@@ -5,13 +5,11 @@ ghost use Rattle.std.specs.Prelude.{◌≤◌, length};
 ghost use Rattle.axis.specs.Asks.{Paired, Ordered, AllWithin};
 ghost use Rattle.ledger.specs.Ranges.{every_low, every_high};
 
-use axis::Bound;
+use axis::{Bound, Range};
 use held::Held;
-use ranges::Range;
 
 mod asks;
 mod changes;
-mod ranges;
 mod sums;
 
 pub use sums::along;

@@ -1,12 +1,8 @@
-// From where to where a line may lie.
+// Which ranges a line may have.
 ghost use Rattle.std.specs.Prelude.{IsTrue, ◌↔◌};
 ghost use Rattle.axis.specs.Asks.{InOrder};
 
-#[derive(Clone, Copy, PartialEq, Eq, Debug)]
-pub struct Range {
-    pub low: i16,
-    pub high: i16,
-}
+use crate::Range;
 
 impl Range {
     // Is the low from 0 to 2880, and the high from the low to 2880?
