@@ -6,7 +6,7 @@ use Rattle.boxes.specs.declared.model.Place.{Place}
 use Rattle.axis.specs.Meaning.{Meaning, lines, at_line, Largest, Earliest}
 use Rattle.axis.specs.Asks.{Valid}
 use Rattle.boxes.specs.Arranged.{step_of, metre_of}
-use Rattle.moves.specs.Meanings.{Meanings, BothValid}
+use Rattle.moves.specs.Meanings.{Meanings}
 use Rattle.moves.specs.Settled.{nowhere, Settled}
 use Rattle.axis.specs.Theory.{EarliestValue}
 use Rattle.axis.proofs.Distances.{distances_hold_lem, earliest_largest}
@@ -49,11 +49,12 @@ places_earliest most m valid f ps size each =
     (λ k h. let l : k < length ps = omega (arith, length-map ps f) in subst (EarliestValue m (k + 1)) (sym (get_or-map f ps k nowhere (pos 0) l)) (each k l))
 
 -- all boxes are settled, on axes n that mean m
-pub settled_all : (ht hp : ℕ) (n m : Meanings) (ps : List Place) (k : ℕ) → n ≡ m → BothValid ht hp n → Settled n k ps → length ps ≤ k → lines m.time ≡ length ps → lines m.platform ≡ length ps
+pub settled_all : (ht hp : ℕ) (n m : Meanings) (ps : List Place) (k : ℕ) → n ≡ m → Valid ht n.time → Valid hp n.platform → Settled n k ps → length ps ≤ k → lines m.time ≡ length ps → lines m.platform ≡ length ps
     → Earliest m.time (step_of ps) × Earliest m.platform (metre_of ps)
-settled_all ht hp n m ps k e valid s all timed placed =
-    let v = subst (BothValid ht hp) e valid in
+settled_all ht hp n m ps k e valid_time valid_platform s all timed placed =
+    let v = subst (λ (x : Meanings). Valid ht x.time) e valid_time in
+    let w = subst (λ (x : Meanings). Valid hp x.platform) e valid_platform in
     let s = subst (λ x. Settled x k ps) e s in (
-      places_earliest ht m.time v.0 (λ p. pos p.step) ps timed (λ i h. s.steps i (omega arith)),
-      places_earliest hp m.platform v.1 (λ p. pos p.metre) ps placed (λ i h. s.metres i (omega arith)),
+      places_earliest ht m.time v (λ p. pos p.step) ps timed (λ i h. s.steps i (omega arith)),
+      places_earliest hp m.platform w (λ p. pos p.metre) ps placed (λ i h. s.metres i (omega arith)),
     )

@@ -1,7 +1,5 @@
 -- What two axes mean, one for steps and one for metres.
-use Rattle.std.specs.Prelude.{ℕ}
 use Rattle.axis.specs.Meaning.{Meaning, with_bound}
-use Rattle.axis.specs.Asks.{Valid}
 use Rattle.boxes.specs.declared.model.Direction.{Direction}
 use Rattle.boxes.specs.declared.model.Entry.{Entry}
 use Rattle.boxes.specs.Overlaps.{in_direction}
@@ -20,7 +18,3 @@ grown m e = record {
   time = in_direction (with_bound m.time e.bound) m.time e.direction;
   platform = in_direction m.platform (with_bound m.platform e.bound) e.direction;
 }
-
--- what holds of two axes at every time
-abbrev pub BothValid : ℕ → ℕ → Meanings → Type 0
-BothValid ht hp m = Valid ht m.time × Valid hp m.platform

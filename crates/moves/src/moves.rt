@@ -3,7 +3,7 @@ ghost use Rattle.std.specs.Prelude.{◌≡◌, ◌≤◌, length};
 ghost use Rattle.axis.specs.Meaning.{lines, Earliest, Largest};
 ghost use Rattle.axis.specs.Asks.{Named, Within, Tight};
 ghost use Rattle.boxes.specs.Arranged.{step_of, metre_of};
-ghost use Rattle.moves.specs.Meanings.{along, BothValid};
+ghost use Rattle.moves.specs.Meanings.{along};
 ghost use Rattle.moves.specs.Moves.{ResetOn, PutOn, BackOn, Told};
 
 use crate::places::{line_count, place_of};
@@ -105,17 +105,6 @@ impl<T: Axis, P: Axis> Axes<T, P> {
             return Standing::Implied;
         }
         Standing::Possible
-    }
-
-    // How many bounds stand on the axis of that direction.
-    pub fn count(&self, direction: Direction) -> usize
-        ensures count { result ≡ length (along direction self.now).bounds }
-        ensures valid { BothValid T.Axis.MOST P.Axis.MOST self.now }
-    {
-        match direction {
-            Direction::Time => self.time.count(),
-            Direction::Platform => self.platform.count(),
-        }
     }
 
     // So many boxes, with a line for each: there are never more than twelve.

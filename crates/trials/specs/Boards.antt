@@ -61,6 +61,7 @@ module _ {T P : Type 0} where
       (b'.sizes.now ≡ b.sizes.now) × (length (memory b'.trail.now) ≡ length (memory b.trail.now))
       × (b'.axes.ghost_name ≡ b.axes.ghost_name) × (b'.places.ghost_name ≡ b.places.ghost_name) × (b'.trials.ghost_name ≡ b.trials.ghost_name) × (b'.trail.ghost_name ≡ b.trail.ghost_name)
 
+  -- axes, trials, places and trail are as they were
   pub record Unchanged (b b' : Board T P) : Type 0 where
     pub axes : b'.axes.now ≡ b.axes.now
     pub trials : b'.trials.now ≡ b.trials.now
@@ -81,11 +82,12 @@ module _ {T P : Type 0} where
   Entered ht hp k w b b' true = Below ht hp k w b b'
   Entered ht hp k w b b' false = RefutedAt b k w × Unchanged b b'
 
+  -- a bound has gone from the axis of the newest record, or there was none
   abbrev pub NewestGone : Board T P → Board T P → Result (Unit {0}) StackFault → Type 0
   NewestGone b b' (Ok _) = (x : Trial) × ((contents b.trail.now ≡ contents b'.trail.now ++ x ∷ []) × ((r : Result Unit AxisFault) × BackOn (side x.word) b.axes.now r b'.axes.now))
   NewestGone b b' (Err _) = contents b.trail.now ≡ []
 
-  -- the newest record is gone, and a bound from its axis
+  -- so it is, and nothing else has changed
   pub record BackedUp (b b' : Board T P) (result : Result (Unit {0}) StackFault) : Type 0 where
     pub newest : NewestGone b b' result
     pub trials : b'.trials.now ≡ b.trials.now
