@@ -14,9 +14,6 @@ module _ (span platform : ℕ) where
     pub refused : (f : SheetFault) → FirstNo (stays_ask span platform (i + 1) (drop i ss)) f → FirstNo (stays_ask span platform 1 ss) f
     pub passed : AllYes (stays_ask span platform (i + 1) (drop i ss)) → AllYes (stays_ask span platform 1 ss)
 
-  pub leads_none : (ss : List Stay) → Leads ss 0
-  leads_none ss = record { refused = λ f h. h; passed = λ h. h }
-
   module _ (ss : List Stay) (i : ℕ) (less : i < length ss) (l : Leads ss i) where
     abbrev here : Asked
     here = stay_asks span platform (i + 1) (get_or ss i no_stay)

@@ -24,5 +24,5 @@ Newest es (Some e) = es ≡ take (length es - 1) es ++ (e ∷ [])
 pub record Lined (d : Direction) (span platform : ℕ) (stays : List Stay) (r : Ranges) : Type 0 where
   pub lows : r.lows ≡ map (low_on d) stays
   pub highs : r.highs ≡ map (high_on d span platform) stays
-  pub paired : Paired (r.lows) (r.highs)
-  pub ordered : Ordered (r.lows) (r.highs)
+  pub paired : Paired r.lows r.highs
+  pub ordered : Ordered r.lows r.highs

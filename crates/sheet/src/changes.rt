@@ -42,7 +42,7 @@ impl<T: Axis, P: Axis> Sheet<T, P> {
         self.enter(entry)
     }
 
-    // The newest entry, on either axis, is gone.
+    // The newest entry, on either axis, is gone. Its bound stands there, so the axis does not refuse.
     pub fn withdraw(&mut self) -> Result<(), SheetFault>
         ensures { Step self.old withdraw (said result) self.new }
     {
