@@ -21,7 +21,7 @@ fn empty<T: Axis, P: Axis>(axes: &mut Axes<T, P>)
     let _ = axes.reset(Direction::Platform, &[], &[]);
 }
 
-// The stays' lines on the axis of the direction, and no bounds.
+// The stays' lines on the axis of the direction, and no bounds. They are paired and in order, so the axis does not refuse.
 fn line_up<T: Axis, P: Axis>(
     axes: &mut Axes<T, P>,
     ranges: &mut Ranges,
