@@ -45,7 +45,7 @@ fn ninety<A: Axis>(rt: &impl Abort, axis: &mut A) -> Result<(), Fail> {
     Ok(())
 }
 
-// More than the pair that the bound named.
+// The differences between line 3 and the others.
 fn around<A: Axis>(axis: &A) -> Result<[i16; 3], AxisFault> {
     [(1, 3), (3, 0), (0, 3)].try_map(|(p, q)| axis.tightest(p, q))
 }

@@ -7,7 +7,7 @@ use Rattle.axis.specs.Meaning.{Meaning, lines, at_line, Largest, Earliest}
 use Rattle.axis.specs.Asks.{Valid}
 use Rattle.boxes.specs.Arranged.{step_of, metre_of}
 use Rattle.moves.specs.Meanings.{Meanings}
-use Rattle.moves.specs.Settled.{nowhere, Settled}
+use Rattle.moves.proofs.Settled.{nowhere, Settled}
 use Rattle.axis.specs.Theory.{EarliestValue}
 use Rattle.axis.proofs.Distances.{distances_hold_lem, earliest_largest}
 

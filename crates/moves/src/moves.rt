@@ -107,6 +107,24 @@ impl<T: Axis, P: Axis> Axes<T, P> {
         Standing::Possible
     }
 
+    // How many bounds stand on the axis of that direction.
+    pub fn count(&self, direction: Direction) -> usize
+        ensures { result ≡ length (along direction self.now).bounds }
+    {
+        match direction {
+            Direction::Time => self.time.count(),
+            Direction::Platform => self.platform.count(),
+        }
+    }
+
+    // The two axes, each by itself again.
+    pub fn parts(self) -> (T, P)
+        ensures { (T.means result.0 ≡ self.time) × (P.means result.1 ≡ self.platform) }
+    {
+        let Axes { time, platform } = self;
+        (time, platform)
+    }
+
     // So many boxes, with a line for each: there are never more than twelve.
     pub fn box_count(&self, boxes: usize) -> u8
         requires { lines self.now.time ≡ boxes }

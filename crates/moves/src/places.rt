@@ -10,6 +10,7 @@ fn least<A: Axis>(axis: &A, line: u8) -> u16
     requires { line ≤ lines (A.means axis.now) }
     ensures { EarliestValue (A.means axis.now) line (pos result) }
 {
+    // Kept a match: in a closure the cast would have to be proved of every value there is.
     match earliest(axis, line) {
         Ok(value) => value as u16,
         Err(_) => 0,

@@ -1,7 +1,8 @@
 -- From the board below back up to the board where the word was put.
-use Rattle.std.proofs.Common.{◌≡◌, ◌∙◌, ℕ, zero, suc, ◌+◌, ◌<◌, Bool, true, false, [], ◌∷◌, get_or, set, Some, sym, refl, subst, arith, below_more}
+use Rattle.std.proofs.Common.{◌≡◌, ◌∙◌, ℕ, ◌+◌, ◌<◌, Bool, true, false, List, length, get_or, set, Some, sym, subst, arith, below_more}
+use Rattle.std.proofs.lemmas.List.{get_or_default}
 use Rattle.stack.specs.declared.elements.Word.{Word}
-use Rattle.stack.specs.declared.elements.Word.TheVariants.{Before, After, Nearer, Farther}
+use Rattle.stack.specs.declared.elements.Word.TheVariants.{Before}
 use Rattle.trials.specs.declared.board.Board.{Board}
 use Rattle.trials.specs.Trials.{unworded, nth_word}
 use Rattle.trials.specs.Boards.{Open, RefutedAt, ImpliedAt, Ready, SameLoans, Below}
@@ -31,14 +32,8 @@ module _ {T P : Type 0} where
   implied_only b b' k w false implied e = ((λ x y a. e.0 x y a (implied x y a.timely a.placed)), e.1, e.2)
 
   -- one word more is refuted
-  pub refuted_more : (b b' : Board T P) (k n : ℕ) (d : Word) → n < 4 → b'.trials.now ≡ b.trials.now → Restored b b' → SameLoans b b' → RefutedAt b' k (get_or (Before ∷ After ∷ Nearer ∷ Farther ∷ []) n d)
-      → ((m : ℕ) → m < n → RefutedAt b k (nth_word m)) → (m : ℕ) → m < n + 1 → RefutedAt b k (nth_word m)
-  refuted_more b b' k n d four trials same loans refuted below =
+  pub refuted_more : (b b' : Board T P) (k n : ℕ) (ws : List Word) (d : Word) → length ws ≡ 4 → ((m : ℕ) → m < 4 → get_or ws m Before ≡ nth_word m) → n < 4
+      → b'.trials.now ≡ b.trials.now → Restored b b' → SameLoans b b' → RefutedAt b' k (get_or ws n d) → ((m : ℕ) → m < n → RefutedAt b k (nth_word m)) → (m : ℕ) → m < n + 1 → RefutedAt b k (nth_word m)
+  refuted_more b b' k n ws d count nth four trials same loans refuted below =
       below_more (λ m. RefutedAt b k (nth_word m)) n below
-      (rw (sym (nth n d four), sym same.axes, sym loans.0, sym trials) refuted) where
-        nth : (n : ℕ) (d : Word) → n < 4 → get_or (Before ∷ After ∷ Nearer ∷ Farther ∷ []) n d ≡ nth_word n
-        nth zero d h = refl
-        nth (suc zero) d h = refl
-        nth (suc (suc zero)) d h = refl
-        nth (suc (suc (suc zero))) d h = refl
-        nth (suc (suc (suc (suc n)))) d h = absurd (omega arith)
+      (rw (← nth n four, get_or_default ws n Before d (omega arith), sym same.axes, sym loans.0, sym trials) refuted)

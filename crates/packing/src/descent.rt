@@ -4,7 +4,7 @@ ghost use Rattle.packing.specs.Descent.{Explored, Restored, Unarranged};
 
 use axis::Axis;
 use stack::Word;
-use trials::{Board, WORDS};
+use trials::{Board, words};
 
 // A place for every box and a word for every pair that has none yet, or nothing.
 #[cycle(attempt_descend_try_words)]
@@ -33,7 +33,7 @@ fn try_words<T: Axis, P: Axis>(board: &mut Board<'_, '_, T, P>, k: usize) -> boo
     ensures same { Restored board.old board.new }
     ensures loans { SameLoans board.old board.new }
 {
-    for word in WORDS {
+    for word in words() {
         if attempt(board, k, word) {
             return true;
         }

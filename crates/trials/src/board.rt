@@ -1,7 +1,8 @@
 // What is done with one word for one pair: judged, its bound put with the trial noted, and taken back.
-ghost use Rattle.std.specs.Prelude.{◌≡◌, ◌<◌, true, length, Some, slice_index_or};
+ghost use Rattle.std.specs.Prelude.{◌≡◌, ℕ, ◌<◌, true, length, Some, slice_index_or};
+ghost use Rattle.stack.specs.declared.elements.Word.TheVariants.{Before};
 ghost use Rattle.boxes.specs.Order.{no_trial};
-ghost use Rattle.trials.specs.Trials.{Node, PickedBelow, ToldWord, entry_of, side};
+ghost use Rattle.trials.specs.Trials.{Node, PickedBelow, ToldWord, entry_of, nth_word, side};
 ghost use Rattle.trials.specs.Boards.{BackedUp, NoWords, Entered, Fits, ImpliedAt, OnLoan, Open, Placed, Ready, Reopened, SameLoans};
 
 use crate::picker::rank_of;
@@ -11,7 +12,11 @@ use moves::{Axes, Standing};
 use stack::{Stack, StackFault, Trial, Word};
 
 // The words in the order in which they are tried.
-pub const WORDS: [Word; 4] = [Word::Before, Word::After, Word::Nearer, Word::Farther];
+pub fn words() -> [Word; 4]
+    ensures { (n : ℕ) → n < 4 → slice_index_or result n Before ≡ nth_word n }
+{
+    [Word::Before, Word::After, Word::Nearer, Word::Farther]
+}
 
 // Boxes of these sizes on two axes, their trials, and the trials that got a word so far, the newest last.
 // The trail is lent like the rest: of a board that owns it, what its lenders have afterwards was not proved.
@@ -130,7 +135,7 @@ impl<'a, 't, T: Axis, P: Axis> Board<'a, 't, T, P> {
         requires within { k < length self.now.trials.now }
         ensures { ImpliedAt self.now k result }
     {
-        for word in WORDS {
+        for word in words() {
             if self.weigh(k, word).1 == Standing::Implied {
                 return Some(word);
             }

@@ -4,4 +4,4 @@
 mod board;
 mod picker;
 
-pub use board::{Board, WORDS};
+pub use board::{Board, words};

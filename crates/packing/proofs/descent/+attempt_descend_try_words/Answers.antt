@@ -1,4 +1,4 @@
-use Rattle.std.proofs.Common.{◌∙◌, arith, rules}
+use Rattle.std.proofs.Common.{◌∙◌, rules}
 use Rattle.packing.proofs.Above.{reached_all, four_refuted}
 use Rattle.packing.proofs.Climbing.{found_above, none_above, reopened, implied_only, refuted_more}
 use Rattle.packing.proofs.descent.+attempt_descend_try_words.Goals as goal
@@ -26,7 +26,7 @@ pub try_words-loop-word-preserved : goal.try_words-loop-word-preserved
 try_words-loop-word-preserved g t c =
     let so = c.loop-word.invariant in
     let none = c.if-attempt.ensures.found in
-    (none.1 ∙ so.0, none.2 ∙ so.1, search rules, search rules, refuted_more c.args.board.now c.loop-word.board c.args.k c.loop-word.word-index _ (omega arith) so.0 so.2 so.3 none.0 so.4)
+    (none.1 ∙ so.0, none.2 ∙ so.1, search rules, search rules, refuted_more c.args.board.now c.loop-word.board c.args.k c.loop-word.word-index c.words-word-items.result _ (search rules) c.words-word-items.ensures (search rules) so.0 so.2 so.3 none.0 so.4)
 
 pub try_words-returns-clause-found : goal.try_words-returns-clause-found
 try_words-returns-clause-found g t c =

@@ -1,4 +1,4 @@
-use Rattle.moves.specs.Settled.{Settled}
+use Rattle.moves.proofs.Settled.{Settled}
 use Rattle.moves.proofs.moves.Axes.place_all.Given as goal
 
 abbrev pub invariant-loop-k : goal.invariant-loop-k
