@@ -57,6 +57,7 @@ pub fn decide<T: Axis, P: Axis>(
     );
     reset(heap, axes, Direction::Time, packing)?;
     reset(heap, axes, Direction::Platform, packing)?;
+    // Kept arrays: a packing writes into lent buffers.
     let mut places = [Place { step: 0, metre: 0 }; 12];
     let mut trials = [Trial::blank(); 66];
     Ok(pack(axes, sizes.as_slice(), &mut places, &mut trials))

@@ -4,7 +4,7 @@ ghost use Rattle.boxes.specs.Order.{pairs, pairs_from, row as row_of, trial_orde
 
 use stack::{Blank, Trial};
 
-// How many pairs n boxes make.
+// How many pairs n boxes make. Kept as a premise here and below: each call has a number of its own, and a type for it would be no plainer.
 pub fn pair_count(n: u8) -> usize
     requires { n ≤ 12 }
     ensures { result ≡ pairs n }

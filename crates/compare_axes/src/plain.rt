@@ -104,6 +104,7 @@ fn ask_reset(lows: &[i16], highs: &[i16]) -> Result<(), AxisFault> {
         lows.len() == highs.len() && lows.len() < LINES,
         AxisFault::Lists,
     )?;
+    // Kept apart from the axes' own test: the model shares nothing with what it is compared with.
     let in_order = lows
         .iter()
         .zip(highs.iter())

@@ -91,7 +91,7 @@ impl From<SheetFault> for ImageFault {
     fn from(fault: SheetFault) -> ImageFault {
         ImageFault {
             offset: 0,
-            cause: Cause::Sheet(fault),
+            cause: fault.into(),
         }
     }
 }

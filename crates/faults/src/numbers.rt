@@ -5,7 +5,7 @@ ghost use Rattle.faults.specs.Numbers.{sheet_number, cause_number, sheet_layer, 
 use crate::model::{Cause, Layer, SheetFault};
 
 impl SheetFault {
-    // Kept as a match: a variant that carries a value has no number that could be cast.
+    // Kept as a match, here and in Cause: a variant that carries a value has no number that could be cast.
     pub fn number(self) -> u8
         ensures { result ≡ sheet_number self }
     {

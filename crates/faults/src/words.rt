@@ -1,5 +1,7 @@
 // Faults in plain words.
 use crate::model::{Cause, ImageFault, SheetFault};
+use boxes::NoDirection;
+use stack::NoWord;
 use std::error::Error;
 use std::fmt;
 
@@ -26,9 +28,9 @@ impl fmt::Display for SheetFault {
                 f,
                 "stay {n}: it does not fit its window, or the window not the span"
             ),
-            SheetFault::Letter => f.write_str("the letter is not T or P"),
+            SheetFault::Letter => write!(f, "{NoDirection}"),
             SheetFault::Entries => f.write_str("24 entries stand on that axis"),
-            SheetFault::Word => f.write_str("the word is not B, A, N or F"),
+            SheetFault::Word => write!(f, "{NoWord}"),
             SheetFault::Pair => f.write_str("not two different stays of the sheet"),
             SheetFault::NoEntry => f.write_str("no entry stands"),
             SheetFault::Places => f.write_str("fewer places than stays"),

@@ -34,7 +34,11 @@ impl Entries {
     pub fn count_on(&self, direction: Direction) -> usize
         ensures { result ≡ length (bounds_on direction self.now.items) }
     {
-        count_in(self.items.as_slice(), direction)
+        self.items
+            .as_slice()
+            .iter()
+            .filter(|entry| entry.direction == direction)
+            .count()
     }
 
     // The entry is the newest.
@@ -57,13 +61,4 @@ impl Entries {
     {
         let _ = self.items.pop();
     }
-}
-
-fn count_in(entries: &[Entry], direction: Direction) -> usize
-    ensures { result ≡ length (bounds_on direction entries.now) }
-{
-    entries
-        .iter()
-        .filter(|entry| entry.direction == direction)
-        .count()
 }

@@ -25,16 +25,16 @@ impl Loading<'_> {
         ensures low { result.low ≡ low_on direction stay }
         ensures high { result.high ≡ high_on direction self.now.span self.now.platform stay }
     {
-        match direction {
-            Direction::Time => Range {
+        direction.pick(
+            Range {
                 low: stay.opening() as i16,
                 high: less(stay.closing(self.span), stay.steps()),
             },
-            Direction::Platform => Range {
+            Range {
                 low: 0,
                 high: less(self.platform, stay.metres),
             },
-        }
+        )
     }
 }
 

@@ -9,7 +9,7 @@ use crate::model::Stay;
 use boxes::{Entry, Size};
 use held::Held;
 
-// The stays, and what each takes up.
+// The stays, and what each takes up. Kept beside each other: a packing is lent the sizes as a slice, and a settle may need no memory.
 #[derive(Drop)]
 pub struct Stays {
     pub(crate) span: u16,

@@ -8,7 +8,7 @@ ghost use Rattle.list_axis.specs.Rows.{Found, Complete};
 use ledger::Ledger;
 use std::array;
 
-// The way to line j found so far has the length at place j, and no way is shorter than the shortest.
+// The way to line j found so far has the length at place j. Kept an array of thirteen: a row needs no memory, and is read to the last line.
 #[derive(Drop)]
 pub struct Lengths<'a> {
     pub ledger: &'a Ledger,

@@ -1,4 +1,4 @@
-// The least place of one box.
+// The least place of one box, and how many there are.
 ghost use Rattle.std.specs.Prelude.{◌≡◌, ◌≤◌, pos};
 ghost use Rattle.axis.specs.Meaning.{lines};
 ghost use Rattle.axis.specs.Theory.{EarliestValue};
@@ -25,7 +25,7 @@ pub fn place_of<T: Axis, P: Axis>(time: &T, platform: &P, line: u8) -> (u16, u16
     (least(time, line), least(platform, line))
 }
 
-// How many lines an axis has.
+// The number of boxes that have a line each on the axis: its law says that there are at most twelve.
 pub fn line_count<A: Axis>(axis: &A, count: usize) -> u8
     requires { lines (A.means axis.now) ≡ count }
     ensures count { result ≡ count }

@@ -7,6 +7,7 @@ use stack::Word;
 use trials::{Board, words};
 
 // A place for every box and a word for every pair that has none yet, or nothing.
+// Kept as a premise of each call: on the way up from a plan the bounds go while the words stay, so it is no invariant of a board.
 #[cycle(attempt_descend_try_words)]
 pub fn descend<T: Axis, P: Axis>(board: &mut Board<'_, '_, T, P>) -> bool
     requires ready { Ready T.Axis.MOST P.Axis.MOST board.old }

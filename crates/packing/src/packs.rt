@@ -31,7 +31,8 @@ impl fmt::Display for NoArrangement {
 
 impl Error for NoArrangement {}
 
-// The same with buffers of just the length.
+// The packing with buffers of just the length.
+// Kept as four parameters: axes, sizes and both buffers are lent one by one.
 fn fill<T: Axis, P: Axis>(
     axes: &mut Axes<T, P>,
     sizes: &[Size],

@@ -8,7 +8,7 @@ use axis::Axis;
 use sheet::Sheet;
 use std::alloc::{AllocError, Global};
 
-// One call; only the answer of a settle needs memory.
+// One call; only the answer of a settle needs memory. Kept side by side: an allocator and a sheet in one struct would be no plainer.
 fn give<T: Axis, P: Axis>(
     heap: Global,
     sheet: &mut Sheet<T, P>,

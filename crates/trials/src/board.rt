@@ -1,4 +1,4 @@
-// What is done with one word for one pair: judged, its bound put with the trial noted, and taken back.
+// The board of a descent, and what is done with one word for one pair: judged, its bound put with the trial noted, and taken back.
 ghost use Rattle.std.specs.Prelude.{◌≡◌, ℕ, ◌<◌, true, length, Some, slice_index_or};
 ghost use Rattle.stack.specs.declared.elements.Word.TheVariants.{Before};
 ghost use Rattle.boxes.specs.Order.{no_trial};
@@ -93,7 +93,7 @@ impl<'a, 't, T: Axis, P: Axis> Board<'a, 't, T, P> {
         Ok(())
     }
 
-    // The bound of the word for trial k, and what is known of it.
+    // The bound of the word for trial k, and what is known of it. Kept as a premise: each call has a trial of its own.
     fn weigh(&self, k: usize, word: Word) -> (Entry, Standing)
         requires node { Node self.now.axes.now self.now.sizes.now self.now.trials.now }
         requires within { k < length self.now.trials.now }
@@ -117,6 +117,7 @@ impl<'a, 't, T: Axis, P: Axis> Board<'a, 't, T, P> {
             return false;
         }
         self.tries = self.tries.saturating_add(1);
+        // kept a pattern: the proof reads which fault it was
         if let Err(_) = self.axes.put(entry) {
             return false;
         }
