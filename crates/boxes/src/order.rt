@@ -22,7 +22,7 @@ pub fn lay_out(n: u8, trials: &mut [Trial])
     lay_rows(1, n, trials);
 }
 
-// Writes the pairs of box i with the boxes after it, and then those of the boxes after it.
+// Writes the pairs of box i with the boxes after it, and then those of the boxes after it. Kept a recursion, as the order is defined.
 fn lay_rows(i: u8, n: u8, trials: &mut [Trial])
     requires few { n ≤ 12 }
     requires room { length trials.old ≡ length (pairs_from i (n - i)) }

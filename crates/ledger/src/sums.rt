@@ -1,4 +1,4 @@
-// A sum of lengths that does not leave 16 bits.
+// Sums of lengths, none of which leaves 16 bits.
 ghost use Rattle.std.specs.Prelude.{◌≡◌, ◌+ℤ◌};
 ghost use Rattle.axis.specs.Asks.{InReach};
 ghost use Rattle.ledger.specs.Lengths.{Near};

@@ -21,7 +21,8 @@ pub struct Rank {
     larger: Reverse<u32>,
 }
 
-// What is known of a word, by the largest difference the one way and the other.
+// What is known of a word, by the largest difference the one way and the other. Kept beside judge, which asks both for each word:
+// here they are asked once for two words, of any sizes.
 fn standing(out: i16, back: i16, extent: u16) -> Standing {
     let extent = i32::from(extent);
     if i32::from(back) < extent {
