@@ -1,0 +1,4 @@
+pub mod Fields
+pub mod Stays
+pub mod Walked
+pub mod Told
