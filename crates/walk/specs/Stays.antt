@@ -21,6 +21,6 @@ abbrev pub stays_at : List ℕ → ℕ → ℕ → List Stay
 stays_at bytes zero o = []
 stays_at bytes (suc n) o = stay_in (part_at bytes o) ∷ stays_at bytes n (after_stay bytes o)
 
--- the bytes of the entries, behind the one at o, which counts them; they end the image
-abbrev pub EntriesFrom : List ℕ → ℕ → List ℕ → Type 0
-EntriesFrom bytes o part = (part ≡ drop (o + 1) bytes) × ((length part ≡ 5 * byte_at bytes o) × (length bytes ≡ o + 1 + length part))
+-- the byte at o counts the entries, which end the image
+abbrev pub EndsAfter : List ℕ → ℕ → ℕ → Type 0
+EndsAfter bytes o n = (n ≡ byte_at bytes o) × (length bytes ≡ o + 1 + 5 * n)

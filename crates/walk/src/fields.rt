@@ -17,9 +17,9 @@ const NO_STAY: Stay = Stay {
     window: None,
 };
 
-impl<'a> Fields<'a> {
+impl Fields {
     #[tactic(auto, using(crate::proofs::Slots::slots_told))]
-    pub fn of(image: &'a [u8]) -> Result<Fields<'a>, ImageFault>
+    pub fn of(image: &[u8]) -> Result<Fields, ImageFault>
         ensures answer { Answered (image_asks image.now) result }
         ensures told { IfOk result (λ f. Tells image.now f) }
     {
@@ -35,7 +35,7 @@ impl<'a> Fields<'a> {
             slots,
             count,
             entries,
-            offset: image.len() - entries.len(),
+            offset: image.len() - 5 * usize::from(entries),
         })
     }
 

@@ -3,14 +3,14 @@ ghost use Rattle.std.specs.Prelude.{◌≡◌, length};
 
 use journal::Stay;
 
-// The entries are the bytes from the offset on to the end of the image. There is a slot for as many stays as a byte can count.
+// The entries are from the offset on to the end of the image, five bytes each. There is a slot for as many stays as a byte can count.
 #[derive(Drop)]
-pub struct Fields<'a> {
+pub struct Fields {
     pub span: u16,
     pub platform: u16,
     pub(crate) slots: [Stay; 255],
     pub(crate) count: u8,
-    pub entries: &'a [u8],
+    pub entries: u8,
     pub offset: usize,
     ghost full: { length slots ≡ 255 },
 }

@@ -1,7 +1,7 @@
 // How far an image was walked.
 ghost use Rattle.std.specs.Prelude.{◌≡◌, ◌+◌, ◌*◌, ◌/◌, ◌≤◌, ◌⊎◌, [], ◌∷◌, length, take, drop, OnOk, IfOk};
 ghost use Rattle.walk.specs.Fields.{byte_at, number_at, field, numbers_ask, stay_asks, after_stay, stays_ask, row_end, entry_asks, after_entry, entries_ask, last_asks, rest_asks, parts_ask, head_asks};
-ghost use Rattle.walk.specs.Stays.{part_at, stays_at, EntriesFrom};
+ghost use Rattle.walk.specs.Stays.{part_at, stays_at, EndsAfter};
 ghost use Rattle.walk.specs.Walked.{Answered};
 
 use crate::parts::{number_of, stay_of};
@@ -137,22 +137,21 @@ impl<'a> Walk<'a> {
         Ok(())
     }
 
-    // The bytes of the entries, behind the one that counts them, to the end of the image.
-    pub fn rest(&mut self) -> Result<&'a [u8], ImageFault>
+    // How many entries there are, which end the image.
+    pub fn rest(&mut self) -> Result<u8, ImageFault>
         ensures answer { Answered (rest_asks self.old.image.now self.old.at) result }
-        ensures entries { IfOk result (λ p. EntriesFrom self.old.image.now self.old.at p.now) }
+        ensures count { IfOk result (λ n. EndsAfter self.old.image.now self.old.at n) }
     {
         let count = self.byte()?;
-        let from = self.at;
         self.last_entries(count)?;
-        Ok(&self.image[from..])
+        Ok(count)
     }
 
-    // A stay for each of these places, and the bytes of the entries.
-    pub fn parts(&mut self, slots: &mut [Stay]) -> Result<&'a [u8], ImageFault>
+    // A stay for each of these places, and how many entries follow.
+    pub fn parts(&mut self, slots: &mut [Stay]) -> Result<u8, ImageFault>
         ensures answer { Answered (parts_ask self.old.image.now (length slots.old) self.old.at) result }
         ensures stays { OnOk result (slots.new ≡ stays_at self.old.image.now (length slots.old) self.old.at) }
-        ensures entries { IfOk result (λ p. EntriesFrom self.old.image.now (row_end (after_stay self.old.image.now) (length slots.old) self.old.at) p.now) }
+        ensures count { IfOk result (λ n. EndsAfter self.old.image.now (row_end (after_stay self.old.image.now) (length slots.old) self.old.at) n) }
     {
         self.stays(slots)?;
         self.rest()

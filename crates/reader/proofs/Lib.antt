@@ -1,0 +1,5 @@
+pub mod Binding
+pub mod Calling
+pub mod Locating
+pub mod Offsets
+pub mod Reading

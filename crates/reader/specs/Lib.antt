@@ -1,0 +1,4 @@
+pub mod Bound
+pub mod Entries
+pub mod Located
+pub mod Reads

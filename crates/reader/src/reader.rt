@@ -1,0 +1,43 @@
+// The one call that reads an image.
+ghost use Rattle.walk.specs.Told.{Tells};
+ghost use Rattle.reader.specs.Bound.{Called};
+ghost use Rattle.reader.specs.Entries.{load_in};
+ghost use Rattle.reader.specs.Located.{load_offset};
+ghost use Rattle.reader.specs.Reads.{Read};
+
+use crate::entries::bind_all;
+use crate::loads::load_offset;
+use axis::Axis;
+use faults::ImageFault;
+use sheet::Sheet;
+use walk::Fields;
+
+fn load_from<T: Axis, P: Axis>(
+    sheet: &mut Sheet<T, P>,
+    image: &[u8],
+    fields: &Fields,
+) -> Result<(), ImageFault>
+    requires { Tells image.now fields.now }
+    ensures { Called (load_offset image.now) (load_in image.now) sheet.old result sheet.new }
+{
+    if let Err(fault) = sheet.load(fields.span, fields.platform, fields.stays()) {
+        return Err(ImageFault {
+            offset: load_offset(image, fault),
+            cause: fault.into(),
+        });
+    }
+    Ok(())
+}
+
+// Refused before the first entry, the sheet is as it was; refused at an entry, it is as a new one.
+pub fn read<T: Axis, P: Axis>(image: &[u8], sheet: &mut Sheet<T, P>) -> Result<(), ImageFault>
+    ensures { Read image.now sheet.old result sheet.new }
+{
+    let fields = Fields::of(image)?;
+    load_from(sheet, image, &fields)?;
+    if let Err(fault) = bind_all(sheet, image, fields.entries, fields.offset) {
+        sheet.renew();
+        return Err(fault);
+    }
+    Ok(())
+}
