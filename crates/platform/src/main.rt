@@ -1,35 +1,26 @@
-// Takes one task through both axes and prints each line's earliest and latest step.
+// Reads an image from standard input and writes the text that answers it.
 #![tactic(auto)]
 
-use list_axis::ListAxis;
+use answer::answer;
 use matrix_axis::MatrixAxis;
+use sheet::Sheet;
+use std::io::{Read, Write};
 
-mod task;
+// One byte more than the longest image, so that what is longer is refused as it would be whole.
+const MOST: u64 = 65538;
 
-use task::task;
-
-fn show(rt: &HostRuntime, name: &str, times: &[(i16, i16)]) -> anyhow::Result<()> {
-    println!(rt; "{name}")?;
-    for (k, (earliest, latest)) in times.iter().enumerate() {
-        println!(rt; "line {} earliest {earliest} latest {latest}", k + 1)?;
-    }
-    Ok(())
-}
-
-fn run(rt: &HostRuntime) -> anyhow::Result<()> {
-    let by_matrix = task(&mut MatrixAxis::new(rt.alloc())?)?;
-    let by_list = task(&mut ListAxis::new(rt.alloc())?)?;
-    show(rt, "matrix axis", &by_matrix)?;
-    show(rt, "list axis", &by_list)?;
-    let verdict = if by_matrix == by_list {
-        "agree"
-    } else {
-        "differ"
-    };
-    println!(rt; "the two axes {verdict}")?;
+// Every text fits: the longest has twelve stays of at most thirteen bytes each, after its first line.
+fn plan(rt: &HostRuntime) -> anyhow::Result<()> {
+    let heap = rt.alloc();
+    let mut image = Vec::new(heap);
+    rt.stdin().take(MOST).read_to_end(&mut image)?;
+    let mut sheet = Sheet::new(heap, MatrixAxis::new(heap)?, MatrixAxis::new(heap)?)?;
+    let mut text = [0; 256];
+    let length = answer(image.as_slice(), &mut sheet, &mut text)?;
+    rt.stdout().write_all(&text[0..length])?;
     Ok(())
 }
 
 fn main(rt: HostRuntime) -> anyhow::Result<()> {
-    run(&rt)
+    plan(&rt)
 }

@@ -29,7 +29,7 @@ module _ (bytes : List ℕ) (k : Journal) where
       moved r m' b = subst (λ (n : ℕ). AllBound bytes n (stays_end bytes + 1) (loaded_in bytes) r m') t.entries (subst (λ (o : ℕ). AllBound bytes f.entries o (loaded_in bytes) r m') t.offset (subst (λ (j : Journal). AllBound bytes f.entries f.offset j r m') h.1 b))
 
       pub refused_entry : (e : ImageFault) (m' : Journal) → AllBound bytes f.entries f.offset m (Err e) m' → Read bytes k (Err e) new
-      refused_entry e m' b = inr (loaded_yes, (moved (Err e) m' b, refl))
+      refused_entry e m' b = inr ((loaded_yes, moved (Err e) m' b), refl)
 
       pub all_read : (m' : Journal) → AllBound bytes f.entries f.offset m (Ok tt) m' → Read bytes k (Ok tt) m'
-      all_read m' b = let s = moved (Ok tt) m' b in (loaded_yes, (s.0, s.1))
+      all_read m' b = let s = moved (Ok tt) m' b in ((loaded_yes, s.0), s.1)

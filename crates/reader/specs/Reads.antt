@@ -20,8 +20,21 @@ binds_ask bytes k (suc n) o = located (λ f. o) (asks k (bind_at bytes o)) ++ bi
 abbrev pub entries_asked : List ℕ → Asked
 entries_asked bytes = binds_ask bytes (loaded_in bytes) (byte_at bytes (stays_end bytes)) (stays_end bytes + 1)
 
--- every question yes, and the sheet is what the image tells; or refused before the first entry, and the sheet as it was; or at an
--- entry, and the sheet is as a new one
+-- the image tells a sheet
+abbrev pub Accepted : List ℕ → Type 0
+Accepted bytes = AllYes (load_asked bytes) × AllYes (entries_asked bytes)
+
+-- refused before the first entry, and refused at an entry
+abbrev pub RefusedWhole : List ℕ → ImageFault → Type 0
+RefusedWhole bytes f = FirstNo (load_asked bytes) f
+
+abbrev pub RefusedEntry : List ℕ → ImageFault → Type 0
+RefusedEntry bytes f = AllYes (load_asked bytes) × FirstNo (entries_asked bytes) f
+
+abbrev pub Refused : List ℕ → ImageFault → Type 0
+Refused bytes f = RefusedWhole bytes f ⊎ RefusedEntry bytes f
+
+-- the sheet is what the image tells; or it is as it was, or as a new one where the image is refused at an entry
 abbrev pub Read : List ℕ → Journal → Result Unit ImageFault → Journal → Type 0
-Read bytes k (Ok u) k' = AllYes (load_asked bytes) × (AllYes (entries_asked bytes) × (k' ≡ journal_in bytes))
-Read bytes k (Err f) k' = (FirstNo (load_asked bytes) f × (k' ≡ k)) ⊎ (AllYes (load_asked bytes) × (FirstNo (entries_asked bytes) f × (k' ≡ new)))
+Read bytes k (Ok u) k' = Accepted bytes × (k' ≡ journal_in bytes)
+Read bytes k (Err f) k' = (RefusedWhole bytes f × (k' ≡ k)) ⊎ (RefusedEntry bytes f × (k' ≡ new))

@@ -1,7 +1,7 @@
 // The task, on any axis.
 ghost use Rattle.std.specs.Prelude.{◌≡◌, Ok};
 ghost use Rattle.axis.specs.Meaning.{Meaning};
-ghost use Rattle.platform.specs.Task.{worked, times, Spanned};
+ghost use Rattle.worked_axes.specs.Task.{worked, times, Spanned};
 
 use axis::{Axis, AxisFault, Bound, earliest, latest};
 

@@ -8,7 +8,7 @@ use Rattle.axis.specs.Theory.{EarliestValue, LatestValue}
 use Rattle.axis.specs.Distance.{base, mend, distance, Open, Right}
 use Rattle.axis.proofs.Tables.{right_earliest}
 use Rattle.axis.proofs.Distances.{distance_right, distances_hold_lem, earliest_largest}
-use Rattle.platform.specs.Task.{worked, times, Spanned}
+use Rattle.worked_axes.specs.Task.{worked, times, Spanned}
 
 abbrev lows : List ℤ
 lows = worked.lows
