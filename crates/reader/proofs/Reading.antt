@@ -3,11 +3,11 @@ use Rattle.std.proofs.Common.{◌≡◌, ℕ, ◌+◌, List, Ok, Err, Result, in
 use Rattle.axis.specs.Questions.{AllYes, FirstNo}
 use Rattle.axis.proofs.Asked.{first_no_append, first_no_after, all_yes_append}
 use Rattle.faults.specs.declared.model.ImageFault.{ImageFault}
-use Rattle.journal.specs.Journal.{Journal, new}
+use Rattle.journal.specs.Journal.{Journal}
 use Rattle.walk.specs.declared.model.Fields.{Fields}
 use Rattle.walk.specs.Fields.{byte_at, image_asks, stays_end}
 use Rattle.walk.specs.Told.{Tells}
-use Rattle.reader.specs.Bound.{Called, AllBound}
+use Rattle.reader.specs.Bound.{Called, BoundOrNew}
 use Rattle.reader.specs.Entries.{load_in, loaded_in}
 use Rattle.reader.specs.Located.{load_offset}
 use Rattle.reader.specs.Reads.{Read, load_asked}
@@ -25,11 +25,12 @@ module _ (bytes : List ℕ) (k : Journal) where
       loaded_yes = all_yes_append (image_asks bytes) _ yes h.0
 
       -- the entries are where the fields tell, and the load is made
-      moved : (r : Result Unit ImageFault) (m' : Journal) → AllBound bytes f.entries f.offset m r m' → AllBound bytes (byte_at bytes (stays_end bytes)) (stays_end bytes + 1) (loaded_in bytes) r m'
-      moved r m' b = subst (λ (n : ℕ). AllBound bytes n (stays_end bytes + 1) (loaded_in bytes) r m') t.entries (subst (λ (o : ℕ). AllBound bytes f.entries o (loaded_in bytes) r m') t.offset (subst (λ (j : Journal). AllBound bytes f.entries f.offset j r m') h.1 b))
+      moved : (r : Result Unit ImageFault) (m' : Journal) → BoundOrNew bytes f.entries f.offset m r m' → BoundOrNew bytes (byte_at bytes (stays_end bytes)) (stays_end bytes + 1) (loaded_in bytes) r m'
+      moved r m' b = subst (λ (n : ℕ). BoundOrNew bytes n (stays_end bytes + 1) (loaded_in bytes) r m') t.entries (subst (λ (o : ℕ). BoundOrNew bytes f.entries o (loaded_in bytes) r m') t.offset (subst (λ (j : Journal). BoundOrNew bytes f.entries f.offset j r m') h.1 b))
 
-      pub refused_entry : (e : ImageFault) (m' : Journal) → AllBound bytes f.entries f.offset m (Err e) m' → Read bytes k (Err e) new
-      refused_entry e m' b = inr ((loaded_yes, moved (Err e) m' b), refl)
+      read_entries : (r : Result Unit ImageFault) (m' : Journal) → BoundOrNew bytes (byte_at bytes (stays_end bytes)) (stays_end bytes + 1) (loaded_in bytes) r m' → Read bytes k r m'
+      read_entries (Ok u) m' b = ((loaded_yes, b.0), b.1)
+      read_entries (Err e) m' b = inr ((loaded_yes, b.0), b.1)
 
-      pub all_read : (m' : Journal) → AllBound bytes f.entries f.offset m (Ok tt) m' → Read bytes k (Ok tt) m'
-      all_read m' b = let s = moved (Ok tt) m' b in ((loaded_yes, s.0), s.1)
+      pub all_read : (r : Result Unit ImageFault) (m' : Journal) → BoundOrNew bytes f.entries f.offset m r m' → Read bytes k r m'
+      all_read r m' b = read_entries r m' (moved r m' b)

@@ -1,6 +1,7 @@
 // The one call that reads an image.
+ghost use Rattle.std.specs.Prelude.{◌+◌, ◌*◌, ◌≤◌, length};
 ghost use Rattle.walk.specs.Told.{Tells};
-ghost use Rattle.reader.specs.Bound.{Called};
+ghost use Rattle.reader.specs.Bound.{Called, BoundOrNew};
 ghost use Rattle.reader.specs.Entries.{load_in};
 ghost use Rattle.reader.specs.Located.{load_offset};
 ghost use Rattle.reader.specs.Reads.{Read};
@@ -29,15 +30,27 @@ fn load_from<T: Axis, P: Axis>(
     Ok(())
 }
 
+// The entries, or a sheet as a new one where one of them is refused.
+fn bind_or_renew<T: Axis, P: Axis>(
+    sheet: &mut Sheet<T, P>,
+    image: &[u8],
+    fields: &Fields,
+) -> Result<(), ImageFault>
+    requires { fields.now.offset + 5 * fields.now.entries ≤ length image.now }
+    ensures { BoundOrNew image.now fields.now.entries fields.now.offset sheet.old result sheet.new }
+{
+    let bound = bind_all(sheet, image, fields.entries, fields.offset);
+    if bound.is_err() {
+        sheet.renew();
+    }
+    bound
+}
+
 // Refused before the first entry, the sheet is as it was; refused at an entry, it is as a new one.
 pub fn read<T: Axis, P: Axis>(image: &[u8], sheet: &mut Sheet<T, P>) -> Result<(), ImageFault>
     ensures { Read image.now sheet.old result sheet.new }
 {
     let fields = Fields::of(image)?;
     load_from(sheet, image, &fields)?;
-    if let Err(fault) = bind_all(sheet, image, fields.entries, fields.offset) {
-        sheet.renew();
-        return Err(fault);
-    }
-    Ok(())
+    bind_or_renew(sheet, image, &fields)
 }

@@ -1,5 +1,5 @@
 use Rattle.std.proofs.lemmas.Result.{err_from_is_err_and}
-use Rattle.reader.proofs.Reading.{refused_fields, refused_load, refused_entry, all_read}
+use Rattle.reader.proofs.Reading.{refused_fields, refused_load, all_read}
 use Rattle.reader.proofs.reader.read.Goals as goal
 
 pub returns-in_err-fields : goal.returns-in_err-fields
@@ -12,8 +12,5 @@ returns-in_err-load_from g c =
     let p = err_from_is_err_and c.from_residual-in_err-load_from.result c.from_residual-in_err-load_from.ensures.1 in
     rw (p.1, p.2) (refused_load c.args.image.now c.args.sheet.now c.in_ok-fields.ensures.answer _ _ c.in_err-load_from.ensures)
 
-pub returns-in-Err : goal.returns-in-Err
-returns-in-Err g c = rw c.renew.ensures (refused_entry c.args.image.now c.args.sheet.now c.in_ok-fields.ensures.answer c.in_ok-fields.fields c.in_ok-fields.ensures.told _ c.in_ok-load_from.ensures c.in-Err.fault c.bind_all.new.sheet c.in-Err.ensures)
-
 pub returns : goal.returns
-returns g c = all_read c.args.image.now c.args.sheet.now c.in_ok-fields.ensures.answer c.in_ok-fields.fields c.in_ok-fields.ensures.told _ c.in_ok-load_from.ensures _ c.in_default.ensures
+returns g c = all_read c.args.image.now c.args.sheet.now c.in_ok-fields.ensures.answer c.in_ok-fields.fields c.in_ok-fields.ensures.told _ c.in_ok-load_from.ensures _ _ c.bind_or_renew.ensures
