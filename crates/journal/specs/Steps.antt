@@ -35,7 +35,7 @@ pub data Reply : Type 0 where
   difference : (t : ℤ) → Reply
   plan : (places : List Place) (trials : List Trial) → Reply
 
-abbrev on_axis : Option Direction → (Direction → Asked) → Asked
+abbrev pub on_axis : Option Direction → (Direction → Asked) → Asked
 on_axis None rest = record { asks = ⊥; refusal = refuse.Letter } ∷ []
 on_axis (Some d) rest = rest d
 
@@ -51,7 +51,7 @@ asks k withdraw = record { asks = 0 < length k.entries; refusal = refuse.NoEntry
 asks k (ask letter p q) = on_axis (direction_of letter) (λ d. record { asks = Named (length k.stays) p q; refusal = refuse.Axis fault.Line } ∷ [])
 asks k (settle places trials) = settle_asks k places trials
 
-abbrev bound_next : Journal → Option Direction → Bound → Journal
+abbrev pub bound_next : Journal → Option Direction → Bound → Journal
 bound_next k None b = k
 bound_next k (Some d) b = with_entry k (record { direction = d; bound = b })
 

@@ -1,0 +1,7 @@
+pub mod Accepted
+pub mod Bound
+pub mod Entries
+pub mod Holds
+pub mod Starts
+pub mod Stays
+pub mod Written
