@@ -1,12 +1,12 @@
 -- The questions on a row of stays, asked one after the other.
-use Rattle.std.proofs.Common.{◌≡◌, ℕ, zero, suc, ◌+◌, ◌<◌, ◌≤◌, List, [], ◌∷◌, ◌++◌, length, get_or, drop, IfOk, Ok, Err, Result, sym, ap, subst, arith}
+use Rattle.std.proofs.Common.{◌≡◌, ℕ, zero, suc, ◌+◌, ◌<◌, ◌≤◌, List, [], ◌∷◌, ◌++◌, length, get_or, drop, sym, ap, subst, arith}
 use Rattle.std.proofs.lemmas.List.{drop_more, drop_all}
 use Rattle.axis.specs.Questions.{AllYes, FirstNo}
 use Rattle.axis.proofs.Asked.{first_no_append, first_no_after, all_yes_append}
 use Rattle.faults.specs.declared.model.SheetFault.{SheetFault}
 use Rattle.journal.specs.declared.model.Stay.{Stay}
 use Rattle.journal.specs.Stays.{GoodStay, no_stay}
-use Rattle.journal.specs.Asks.{Asked, stay_asks, stays_ask, Answered}
+use Rattle.journal.specs.Asks.{Asked, stay_asks, stays_ask}
 
 module _ (span platform : ℕ) where
   -- what the stays from index i on answer is what all of them answer
@@ -41,7 +41,3 @@ module _ (span platform : ℕ) where
   all_good number [] y k h = absurd (omega arith)
   all_good number (s ∷ ss) y zero h = record { circuit = y.0; doors = y.1.0; metres = y.1.1.0; window = y.1.1.1.0 }
   all_good number (s ∷ ss) y (suc k) h = all_good (number + 1) ss y.1.1.1.1 k (omega arith)
-
-  pub checked_good : (ss : List Stay) (r : Result Unit SheetFault) → Answered (stays_ask span platform 1 ss) r → IfOk r (λ _. (k : ℕ) → k < length ss → GoodStay span platform (get_or ss k no_stay))
-  checked_good ss (Ok u) y = all_good 1 ss y
-  checked_good ss (Err f) n = tt

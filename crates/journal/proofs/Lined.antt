@@ -10,11 +10,11 @@ use Rattle.boxes.specs.Overlaps.{Sized}
 use Rattle.journal.specs.declared.model.Stay.{Stay}
 use Rattle.journal.specs.Stays.{size_of, no_stay, GoodStay}
 use Rattle.journal.specs.Journal.{low_on, high_on}
-use Rattle.journal.specs.Asks.{Extents}
+use Rattle.journal.specs.Asks.{GoodExtents}
 use Rattle.journal.specs.declared.tables.Ranges.{Ranges}
 use Rattle.journal.specs.Tables.{Lined}
 
-module _ (span platform : ℕ) (extents : Extents span platform) where
+module _ (span platform : ℕ) (good_extents : GoodExtents span platform) where
   in_order : (d : Direction) (s : Stay) → GoodStay span platform s → InOrder (low_on d s) (high_on d span platform s)
   in_order Time s g = (omega (arith, ints), (omega (arith, ints), omega (arith, ints)))
   in_order Platform s g = (omega (arith, ints), (omega (arith, ints), omega (arith, ints)))

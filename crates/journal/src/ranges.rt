@@ -20,7 +20,7 @@ impl Ranges {
 
     // The lines of these stays in the direction.
     pub fn line_up(&mut self, direction: Direction, loading: &Loading<'_>)
-        ensures { Lined direction loading.now.span loading.now.platform loading.now.stays.now self.new }
+        ensures { Lined direction loading.now.extents.span loading.now.extents.platform loading.now.stays.now self.new }
     {
         self.lows.clear();
         self.highs.clear();
