@@ -1,6 +1,6 @@
 -- The ranges of good stays: paired and in order; and what they take up.
 use Rattle.std.proofs.Common.{◌≡◌, ℕ, ◌<◌, ◌≤◌, List, map, length, get_or, ℤ, pos, sym, ap, ◌∙◌, subst, arith}
-use Rattle.std.proofs.lemmas.List.{length-map, get_or-map}
+use Rattle.std.proofs.lemmas.List.{length-map, get_or-map, get_or_default}
 use Rattle.std.proofs.lemmas.Int.{ints}
 use Rattle.axis.specs.Asks.{InOrder, Paired, Ordered}
 use Rattle.boxes.specs.declared.model.Size.{Size}
@@ -20,6 +20,10 @@ module _ (span platform : ℕ) (good_extents : GoodExtents span platform) where
   in_order Platform s g = (omega (arith, ints), (omega (arith, ints), omega (arith, ints)))
 
   module _ (ss : List Stay) (good : (k : ℕ) → k < length ss → GoodStay span platform (get_or ss k no_stay)) where
+    -- a stay that was read at k
+    pub good_at : (s : Stay) (k : ℕ) → k < length ss → s ≡ get_or ss k s → GoodStay span platform s
+    good_at s k less read = subst (GoodStay span platform) (sym (read ∙ get_or_default ss k s no_stay less)) (good k less)
+
     lined_ordered : (d : Direction) (lows highs : List ℤ) → lows ≡ map (low_on d) ss → highs ≡ map (high_on d span platform) ss → Ordered lows highs
     lined_ordered d lows highs el eh k h =
         let less : k < length ss = omega (arith, ap length el, length-map ss (low_on d)) in

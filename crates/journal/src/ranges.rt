@@ -22,13 +22,17 @@ impl Ranges {
     pub fn line_up(&mut self, direction: Direction, loading: &Loading<'_>)
         ensures { Lined direction loading.now.extents.span loading.now.extents.platform loading.now.stays.now self.new }
     {
-        self.lows.clear();
-        self.highs.clear();
-        for stay in loading.stays {
-            let range = loading.range_of(direction, *stay);
-            self.lows.push(range.low);
-            self.highs.push(range.high);
-        }
+        let stays = loading.stays;
+        self.lows.refill_from(
+            stays
+                .iter()
+                .map(|stay| loading.range_of(direction, *stay).low),
+        );
+        self.highs.refill_from(
+            stays
+                .iter()
+                .map(|stay| loading.range_of(direction, *stay).high),
+        );
     }
 
     pub fn lows(&self) -> &[i16]

@@ -30,7 +30,8 @@ impl Stays {
     {
         self.extents = loading.extents;
         self.items.refill(loading.stays);
-        measure(&mut self.sizes, loading);
+        self.sizes
+            .refill_from(loading.stays.iter().map(|stay| stay.size()));
     }
 
     // As a new sheet has it.
@@ -70,16 +71,5 @@ impl Stays {
         ensures few { result ≤ 12 }
     {
         self.items.len() as u8
-    }
-}
-
-// What each of the stays takes up.
-fn measure(sizes: &mut Held<Size, 12>, loading: &Loading<'_>)
-    ensures items { sizes.new ≡ map size_of loading.now.stays.now }
-    ensures sized { Sized sizes.new }
-{
-    sizes.clear();
-    for stay in loading.stays {
-        sizes.push(stay.size());
     }
 }
