@@ -1,9 +1,9 @@
 -- The questions on a row of stays, asked one after the other.
-use Rattle.std.proofs.Common.{ℕ, zero, suc, ◌+◌, ◌<◌, List, [], ◌∷◌, length, get_or, drop, arith}
+use Rattle.std.proofs.Common.{ℕ, zero, suc, ◌+◌, List, [], ◌∷◌, All, drop, arith}
 use Rattle.axis.specs.Questions.{AllYes, FirstNo}
 use Rattle.faults.specs.declared.model.SheetFault.{SheetFault}
 use Rattle.journal.specs.declared.model.Stay.{Stay}
-use Rattle.journal.specs.Stays.{GoodStay, no_stay}
+use Rattle.journal.specs.Stays.{GoodStay}
 use Rattle.journal.specs.Asks.{stays_ask}
 
 module _ (span platform : ℕ) where
@@ -13,7 +13,7 @@ module _ (span platform : ℕ) where
     pub passed : AllYes (stays_ask span platform (i + 1) (drop i ss)) → AllYes (stays_ask span platform 1 ss)
 
   -- so each stay is good
-  pub all_good : (number : ℕ) (ss : List Stay) → AllYes (stays_ask span platform number ss) → (k : ℕ) → k < length ss → GoodStay span platform (get_or ss k no_stay)
-  all_good number [] y k h = absurd (omega arith)
-  all_good number (s ∷ ss) y zero h = record { circuit = y.0; doors = y.1.0; metres = y.1.1.0; window = y.1.1.1.0 }
-  all_good number (s ∷ ss) y (suc k) h = all_good (number + 1) ss y.1.1.1.1 k (omega arith)
+  pub all_good : (number : ℕ) (ss : List Stay) → AllYes (stays_ask span platform number ss) → All (GoodStay span platform) ss
+  all_good number [] y k d h = absurd (omega arith)
+  all_good number (s ∷ ss) y zero d h = record { circuit = y.0; doors = y.1.0; metres = y.1.1.0; window = y.1.1.1.0 }
+  all_good number (s ∷ ss) y (suc k) d h = all_good (number + 1) ss y.1.1.1.1 k d (omega arith)

@@ -1,6 +1,6 @@
 // The questions of a load.
-ghost use Rattle.std.specs.Prelude.{◌≡◌, ℕ, ◌<◌, ◌≤◌, length, IfOk, slice_index_or};
-ghost use Rattle.journal.specs.Stays.{GoodStay, no_stay};
+ghost use Rattle.std.specs.Prelude.{◌≡◌, ◌≤◌, All, length, IfOk};
+ghost use Rattle.journal.specs.Stays.{GoodStay};
 ghost use Rattle.journal.specs.Asks.{Answered, load_asks, stay_asks, stays_ask};
 
 use crate::extents::Extents;

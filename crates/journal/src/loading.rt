@@ -1,6 +1,6 @@
 // What a load is given, once its questions are all answered yes.
-ghost use Rattle.std.specs.Prelude.{◌≡◌, ℕ, ◌<◌, ◌≤◌, length, pos, ◌-ℤ◌, slice_index_or};
-ghost use Rattle.journal.specs.Stays.{GoodStay, no_stay};
+ghost use Rattle.std.specs.Prelude.{◌≡◌, ◌≤◌, All, length, pos, ◌-ℤ◌};
+ghost use Rattle.journal.specs.Stays.{GoodStay};
 ghost use Rattle.journal.specs.Journal.{low_on, high_on};
 
 use crate::extents::Extents;
@@ -13,7 +13,7 @@ pub struct Loading<'a> {
     pub(crate) extents: Extents,
     pub(crate) stays: &'a [Stay],
     ghost few: { length stays.now ≤ 12 },
-    ghost good: { (k : ℕ) → k < length stays.now → GoodStay extents.span extents.platform (slice_index_or stays.now k no_stay) },
+    ghost good: { All (GoodStay extents.span extents.platform) stays.now },
 }
 
 impl Loading<'_> {
