@@ -12,7 +12,8 @@ use Rattle.walk.specs.Stays.{stays_at}
 use Rattle.reader.specs.Entries.{loaded_in, journal_in}
 use Rattle.reader.specs.Located.{load_offset}
 use Rattle.reader.specs.Reads.{Accepted}
-use Rattle.round_trip.specs.Tells.{Bytes, Made}
+use Rattle.journal.specs.Made.{Made}
+use Rattle.round_trip.specs.Tells.{Bytes}
 use Rattle.round_trip.proofs.Holds.{Holds, holds_then, holds_byte, holds_number}
 use Rattle.round_trip.proofs.Stays.{first_yes, later_yes, stays_hold, stays_count}
 use Rattle.round_trip.proofs.Entries.{Entries-read, entries_read, with_entries, unlocated}

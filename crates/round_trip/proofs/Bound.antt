@@ -20,7 +20,7 @@ use Rattle.reader.specs.Entries.{signed, bind_at, bound}
 use Rattle.reader.specs.Located.{located}
 use Rattle.reader.specs.Reads.{binds_ask}
 use Rattle.reader.proofs.Locating.{located_yes}
-use Rattle.round_trip.specs.Tells.{entries_asked}
+use Rattle.journal.specs.Made.{entries_asked}
 use Rattle.round_trip.proofs.Starts.{Starts, starts_first, starts_later, byte_read, byte_room, number_read, number_room}
 
 -- the first of two lists of a sheet's questions, and the second

@@ -19,7 +19,8 @@ use Rattle.walk.specs.Fields.{byte_at, number_at, entry_asks as fields_asks, ent
 use Rattle.reader.specs.Entries.{signed, bind_at, bound}
 use Rattle.reader.specs.Located.{located}
 use Rattle.reader.specs.Reads.{binds_ask}
-use Rattle.round_trip.specs.Tells.{Bytes, entries_asked}
+use Rattle.journal.specs.Made.{entries_asked}
+use Rattle.round_trip.specs.Tells.{Bytes}
 use Rattle.round_trip.proofs.Holds.{Holds, holds_then, holds_byte, holds_number}
 use Rattle.round_trip.proofs.Stays.{first_yes, later_yes}
 

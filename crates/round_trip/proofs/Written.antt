@@ -13,7 +13,7 @@ use Rattle.reader.specs.Entries.{loaded_in, journal_in, bound}
 use Rattle.reader.specs.Located.{located, load_offset}
 use Rattle.reader.specs.Reads.{Accepted, binds_ask}
 use Rattle.reader.proofs.Locating.{located_yes}
-use Rattle.round_trip.specs.Tells.{Made}
+use Rattle.journal.specs.Made.{Made}
 use Rattle.round_trip.proofs.Starts.{Starts, starts_first, starts_later, byte_read, byte_room, number_read, number_room, Stays-read, stays_read}
 use Rattle.round_trip.proofs.Bound.{Entries-told, entries_told}
 

@@ -23,6 +23,7 @@ pub struct Sheet<T: Axis, P: Axis> {
 impl<T: Axis, P: Axis> Model for Sheet<T, P> {
     ghost use Rattle.std.specs.Prelude.{◌≡◌};
     ghost use Rattle.journal.specs.Journal.{Journal};
+    ghost use Rattle.journal.specs.Made.{Made};
     ghost use Rattle.journal.specs.Tables.{told};
     ghost use Rattle.sheet.specs.Standing.{axes_of};
 
@@ -30,5 +31,5 @@ impl<T: Axis, P: Axis> Model for Sheet<T, P> {
 
     ghost view = { λ s. told s.stays s.entries };
 
-    ghost invariant = { λ s. s.axes ≡ axes_of (told s.stays s.entries) };
+    ghost invariant = { λ s. (s.axes ≡ axes_of (told s.stays s.entries)) × Made (told s.stays s.entries) };
 }

@@ -1,7 +1,7 @@
 use Rattle.std.proofs.Common.{◌≡◌, subst}
 use Rattle.journal.specs.Journal.{Journal}
 use Rattle.image.specs.Bytes.{image_bytes}
-use Rattle.round_trip.specs.Tells.{Made}
+use Rattle.journal.specs.Made.{Made}
 use Rattle.round_trip.proofs.Accepted.{accepted_image}
 use Rattle.round_trip.proofs.Written.{written_accepted}
 use Rattle.round_trip.proofs.theory.images_tell.Goals as goal
