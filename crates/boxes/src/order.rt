@@ -2,20 +2,26 @@
 ghost use Rattle.std.specs.Prelude.{◌≡◌, ◌+◌, ◌-◌, ◌≤◌, map, length, replicate};
 ghost use Rattle.boxes.specs.Order.{pairs, pairs_from, row as row_of, trial_order, untried, no_trial};
 
-use stack::{Blank, Trial};
+use stack::Trial;
+
+// The most boxes that are placed together, and how many pairs they make.
+pub const MOST_BOXES: usize = 12;
+
+pub const MOST_PAIRS: usize = MOST_BOXES * (MOST_BOXES - 1) / 2;
 
 // How many pairs n boxes make. Kept as a premise here and below: each call has a number of its own, and a type for it would be no plainer.
 pub fn pair_count(n: u8) -> usize
-    requires { n ≤ 12 }
-    ensures { result ≡ pairs n }
+    requires { n ≤ MOST_BOXES }
+    ensures pairs { result ≡ pairs n }
+    ensures few { result ≤ MOST_PAIRS }
 {
-    let boxes = n as usize;
+    let boxes = usize::from(n);
     boxes * boxes.saturating_sub(1) / 2
 }
 
 // Writes the pairs of n boxes, each without a word.
 pub fn lay_out(n: u8, trials: &mut [Trial])
-    requires few { n ≤ 12 }
+    requires few { n ≤ MOST_BOXES }
     requires room { length trials.old ≡ pairs n }
     ensures { trials.new ≡ map untried (trial_order n) }
 {
@@ -24,7 +30,7 @@ pub fn lay_out(n: u8, trials: &mut [Trial])
 
 // Writes the pairs of box i with the boxes after it, and then those of the boxes after it. Kept a recursion, as the order is defined.
 fn lay_rows(i: u8, n: u8, trials: &mut [Trial])
-    requires few { n ≤ 12 }
+    requires few { n ≤ MOST_BOXES }
     requires room { length trials.old ≡ length (pairs_from i (n - i)) }
     ensures { trials.new ≡ map untried (pairs_from i (n - i)) }
 {
@@ -38,7 +44,7 @@ fn lay_rows(i: u8, n: u8, trials: &mut [Trial])
 
 // Writes the pairs of box i with the boxes after it.
 fn lay_row(i: u8, row: &mut [Trial])
-    requires few { i + length row.old ≤ 12 }
+    requires few { i + length row.old ≤ MOST_BOXES }
     ensures { row.new ≡ map untried (row_of i (length row.old)) }
 {
     for (k, trial) in row.iter_mut().enumerate() {
@@ -51,5 +57,5 @@ fn lay_row(i: u8, row: &mut [Trial])
 pub fn clear(trials: &mut [Trial])
     ensures { trials.new ≡ replicate (length trials.old) no_trial }
 {
-    trials.fill(<Trial as Blank>::blank());
+    trials.fill(Trial::default());
 }
