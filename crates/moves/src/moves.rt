@@ -125,12 +125,14 @@ impl<T: Axis, P: Axis> Axes<T, P> {
         (time, platform)
     }
 
-    // So many boxes, with a line for each: the law of an axis says that there are at most twelve.
+    // So many boxes, with a line for each: by the law of an axis there are at most twelve.
     pub fn box_count(&self, boxes: usize) -> u8
         requires { lines self.now.time ≡ boxes }
         ensures count { result ≡ boxes }
         ensures few { result ≤ 12 }
     {
+        // the look at the axis is what brings in its law
+        let _ = &self.time;
         boxes as u8
     }
 
