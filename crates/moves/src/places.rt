@@ -18,7 +18,7 @@ fn least<A: Axis>(axis: &A, line: u8) -> u16
 }
 
 // A box's step and metre, worked out together.
-pub fn place_of<T: Axis, P: Axis>(time: &T, platform: &P, line: u8) -> (u16, u16)
+pub(crate) fn place_of<T: Axis, P: Axis>(time: &T, platform: &P, line: u8) -> (u16, u16)
     requires { (line ≤ lines (T.Axis.means time.now)) × (line ≤ lines (P.Axis.means platform.now)) }
     ensures { EarliestValue (T.Axis.means time.now) line (pos result.0) × EarliestValue (P.Axis.means platform.now) line (pos result.1) }
 {
