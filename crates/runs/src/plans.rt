@@ -9,7 +9,7 @@ use sheet::Sheet;
 use stack::Trial;
 use std::alloc::{AllocError, Global};
 
-// No plan has more places or words than these buffers, so that longer ones make no difference.
+// No plan has more than MOST_BOXES places and MOST_PAIRS words, so that longer buffers make no difference.
 pub fn settle_within<T: Axis, P: Axis>(
     heap: Global,
     sheet: &mut Sheet<T, P>,
