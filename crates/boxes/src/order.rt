@@ -11,7 +11,7 @@ pub const MOST_PAIRS: usize = MOST_BOXES * (MOST_BOXES - 1) / 2;
 
 // How many pairs n boxes make. Kept as a premise here and below: each call has a number of its own, and a type for it would be no plainer.
 pub fn pair_count(n: u8) -> usize
-    requires { n ≤ MOST_BOXES }
+    requires { n ≤ 12 }
     ensures pairs { result ≡ pairs n }
     ensures few { result ≤ MOST_PAIRS }
 {
@@ -21,7 +21,7 @@ pub fn pair_count(n: u8) -> usize
 
 // Writes the pairs of n boxes, each without a word.
 pub fn lay_out(n: u8, trials: &mut [Trial])
-    requires few { n ≤ MOST_BOXES }
+    requires few { n ≤ 12 }
     requires room { length trials.old ≡ pairs n }
     ensures { trials.new ≡ map untried (trial_order n) }
 {
@@ -30,7 +30,7 @@ pub fn lay_out(n: u8, trials: &mut [Trial])
 
 // Writes the pairs of box i with the boxes after it, and then those of the boxes after it. Kept a recursion, as the order is defined.
 fn lay_rows(i: u8, n: u8, trials: &mut [Trial])
-    requires few { n ≤ MOST_BOXES }
+    requires few { n ≤ 12 }
     requires room { length trials.old ≡ length (pairs_from i (n - i)) }
     ensures { trials.new ≡ map untried (pairs_from i (n - i)) }
 {
@@ -44,7 +44,7 @@ fn lay_rows(i: u8, n: u8, trials: &mut [Trial])
 
 // Writes the pairs of box i with the boxes after it.
 fn lay_row(i: u8, row: &mut [Trial])
-    requires few { i + length row.old ≤ MOST_BOXES }
+    requires few { i + length row.old ≤ 12 }
     ensures { row.new ≡ map untried (row_of i (length row.old)) }
 {
     for (k, trial) in row.iter_mut().enumerate() {

@@ -14,7 +14,8 @@ pub use elements::{Trial, Word};
 pub use fault::StackFault;
 pub use letters::NoWord;
 
-// What stands in a slot that holds no element. Kept beside Default: a slot for lines is blank with a number that no line has, and 0 is a line.
+// What stands in a slot that holds no element.
+// Kept beside Default: a blank slot for lines has a number that no line has, and 0 is a line.
 pub trait Blank {
     ghost nothing: { Self };
 

@@ -66,6 +66,7 @@ module _ {T P : Type 0} where
     pub space : length (memory b'.trail.now) ≡ length (memory b.trail.now)
     pub loans : OnLoan b.axes b.places b.trials b.trail b'
 
+  -- nothing has changed
   abbrev pub Unchanged : Board T P → Board T P → Type 0
   Unchanged b b' = Becomes b b' b.axes.now b.trials.now b.places.now (contents b.trail.now)
 
