@@ -59,10 +59,11 @@ fn refill(ranges: &mut Held<Range, 12>, lows: &[i16], highs: &[i16])
     ensures least { every_low ranges.new ≡ lows.now }
     ensures greatest { every_high ranges.new ≡ highs.now }
 {
-    ranges.clear();
-    for (&low, &high) in lows.iter().zip(highs) {
-        ranges.push(Range { low, high });
-    }
+    ranges.refill_from(
+        lows.iter()
+            .zip(highs)
+            .map(|(&low, &high)| Range { low, high }),
+    );
 }
 
 // Is every low from 0 to 2880, and every high from its low to 2880?
