@@ -1,5 +1,7 @@
 // No call but the first needs memory, so none fails for want of it.
 ghost use Rattle.std.specs.Prelude.{◌≡◌, ◌<◌, ◌≤◌, [], ◌∷◌, ◌++◌, List, length, IfOk, vec_capacity};
+ghost use Rattle.std.specs.Iterator.{Drains, UpTo};
+ghost use Rattle.std.specs.Iterator.Runs.{WholeRun};
 ghost use Rattle.held.specs.Newest.{Parted};
 
 use std::alloc::{AllocError, Global};
@@ -67,7 +69,19 @@ impl<T: Copy, const MOST: usize> Held<T, MOST> {
         requires { length items.now ≤ MOST }
         ensures { self.new ≡ items.now }
     {
+        self.refill_from(items.iter().copied());
+    }
+
+    // What the iterator gives in place of what was there. The second clause says it of a run, as the library's chains do.
+    pub fn refill_from<I: Iterator<Item = T>>(&mut self, items: I)
+        requires callable { I.can_next items }
+        requires few { UpTo (I.remaining items) MOST }
+        ensures ran { Drains I.next_gives items self.new }
+        ensures runs { WholeRun I.next_gives items (λ p. self.new ≡ p.items) }
+    {
         self.clear();
-        let _ = self.items.extend_from_slice(items);
+        for item in items {
+            self.push(item);
+        }
     }
 }
