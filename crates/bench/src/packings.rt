@@ -43,6 +43,7 @@ fn last_place(end: u16, extent: u16) -> i16
 }
 
 // From the first place to the last.
+// Kept apart from the range of a stay in a load, which asks that the stay fits: here one that does not is told, by a high of -1.
 fn window(first: u16, end: u16, extent: u16) -> Range
     ensures { result ≡ window first end extent }
 {

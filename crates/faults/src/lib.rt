@@ -3,6 +3,5 @@
 
 mod model;
 mod numbers;
-mod words;
 
 pub use model::{Cause, ImageFault, Layer, SheetFault};

@@ -3,4 +3,4 @@ use Rattle.journal.specs.Journal.{Journal}
 use Rattle.image.specs.declared.body.Body.{Body}
 
 abbrev pub told : Body → Journal
-told b = record { span = b.span; platform = b.platform; stays = b.stays.now; entries = b.entries.now }
+told b = record { span = b.extents.span; platform = b.extents.platform; stays = b.stays.now; entries = b.entries.now }

@@ -5,15 +5,14 @@ ghost use Rattle.page.specs.Pages.{put};
 use crate::fields::{Field, put_list};
 use axis::Axis;
 use boxes::Entry;
-use journal::Stay;
+use journal::{Extents, Stay};
 use page::Page;
 use sheet::Sheet;
 
 // All that the length of an image counts.
 #[derive(Clone, Copy)]
 pub struct Body<'a> {
-    span: u16,
-    platform: u16,
+    extents: Extents,
     stays: &'a [Stay],
     entries: &'a [Entry],
     ghost few_stays: { length stays.now ≤ 12 },
@@ -28,8 +27,7 @@ impl<'a> Body<'a> {
         ensures { told result ≡ sheet.now }
     {
         Body {
-            span: sheet.span(),
-            platform: sheet.metres(),
+            extents: sheet.extents(),
             stays: sheet.stays(),
             entries: sheet.entries(),
         }
@@ -52,8 +50,8 @@ impl Field for Body<'_> {
     // The version comes first.
     fn put_on(&self, page: &mut Page<'_>) {
         page.byte(1);
-        self.span.put_on(page);
-        self.platform.put_on(page);
+        self.extents.span.put_on(page);
+        self.extents.platform.put_on(page);
         put_list(page, self.stays);
         put_list(page, self.entries);
     }

@@ -31,13 +31,16 @@ abbrev pub stays_ask : ℕ → ℕ → ℕ → List Stay → Asked
 stays_ask span platform number [] = []
 stays_ask span platform number (s ∷ ss) = stay_asks span platform number s ++ stays_ask span platform (number + 1) ss
 
-abbrev pub Extents : ℕ → ℕ → Type 0
-Extents span platform = ((1 ≤ span) × (span ≤ 2880)) × ((1 ≤ platform) × (platform ≤ 1000))
+abbrev pub GoodExtents : ℕ → ℕ → Type 0
+GoodExtents span platform = ((1 ≤ span) × (span ≤ 2880)) × ((1 ≤ platform) × (platform ≤ 1000))
+
+abbrev pub extents_asks : ℕ → ℕ → Asked
+extents_asks span platform = record { asks = GoodExtents span platform; refusal = refuse.Extents } ∷ []
 
 abbrev pub load_asks : ℕ → ℕ → List Stay → Asked
 load_asks span platform ss =
-    record { asks = Extents span platform; refusal = refuse.Extents }
-    ∷ record { asks = length ss ≤ 12; refusal = refuse.Stays }
+    extents_asks span platform
+    ++ record { asks = length ss ≤ 12; refusal = refuse.Stays }
     ∷ stays_ask span platform 1 ss
 
 -- the questions on a bound; an axis holds 90, so that it is never full of 24

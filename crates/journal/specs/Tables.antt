@@ -13,7 +13,7 @@ abbrev pub stays_in : Stays → List Stay
 stays_in s = s.items
 
 abbrev pub told : Stays → Entries → Journal
-told s e = record { span = s.span; platform = s.platform; stays = stays_in s; entries = e.items }
+told s e = record { span = s.extents.span; platform = s.extents.platform; stays = stays_in s; entries = e.items }
 
 -- the newest entry, and those before it
 abbrev pub Newest : List Entry → Option Entry → Type 0

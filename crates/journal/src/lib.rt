@@ -3,6 +3,7 @@
 
 mod asks;
 mod entries;
+mod extents;
 mod loading;
 mod model;
 mod plans;
@@ -11,6 +12,7 @@ mod stays;
 mod tables;
 
 pub use asks::check_load;
+pub use extents::Extents;
 pub use loading::Loading;
 pub use model::{Stay, Window};
 pub use plans::plans_tell;

@@ -1,38 +1,36 @@
 // What a load is given, once its questions are all answered yes.
-ghost use Rattle.std.specs.Prelude.{◌≡◌, ℕ, ◌<◌, ◌≤◌, length, pos, ◌-ℤ◌, slice_index_or};
-ghost use Rattle.journal.specs.Stays.{GoodStay, no_stay};
+ghost use Rattle.std.specs.Prelude.{◌≡◌, ◌≤◌, All, length, pos, ◌-ℤ◌};
+ghost use Rattle.journal.specs.Stays.{GoodStay};
 ghost use Rattle.journal.specs.Journal.{low_on, high_on};
-ghost use Rattle.journal.specs.Asks.{Extents};
 
+use crate::extents::Extents;
 use crate::model::Stay;
 use axis::Range;
 use boxes::Direction;
 
 #[derive(Drop)]
 pub struct Loading<'a> {
-    pub(crate) span: u16,
-    pub(crate) platform: u16,
+    pub(crate) extents: Extents,
     pub(crate) stays: &'a [Stay],
-    ghost extents: { Extents span platform },
     ghost few: { length stays.now ≤ 12 },
-    ghost good: { (k : ℕ) → k < length stays.now → GoodStay span platform (slice_index_or stays.now k no_stay) },
+    ghost good: { All (GoodStay extents.span extents.platform) stays.now },
 }
 
 impl Loading<'_> {
     // The lowest and the highest value of the stay's line.
     pub(crate) fn range_of(&self, direction: Direction, stay: Stay) -> Range
-        requires { GoodStay self.now.span self.now.platform stay }
+        requires { GoodStay self.now.extents.span self.now.extents.platform stay }
         ensures low { result.low ≡ low_on direction stay }
-        ensures high { result.high ≡ high_on direction self.now.span self.now.platform stay }
+        ensures high { result.high ≡ high_on direction self.now.extents.span self.now.extents.platform stay }
     {
         direction.pick(
             Range {
                 low: stay.opening() as i16,
-                high: less(stay.closing(self.span), stay.steps()),
+                high: less(stay.closing(self.extents.span), stay.steps()),
             },
             Range {
                 low: 0,
-                high: less(self.platform, stay.metres),
+                high: less(self.extents.platform, stay.metres),
             },
         )
     }

@@ -26,7 +26,7 @@ impl Stay {
     pub fn steps(self) -> u16
         ensures { result ≡ lasts self }
     {
-        ((self.circuit as u32 + 29) / 30) as u16
+        self.circuit.div_ceil(30)
     }
 
     // The first step at which it may begin.

@@ -20,15 +20,19 @@ impl Ranges {
 
     // The lines of these stays in the direction.
     pub fn line_up(&mut self, direction: Direction, loading: &Loading<'_>)
-        ensures { Lined direction loading.now.span loading.now.platform loading.now.stays.now self.new }
+        ensures { Lined direction loading.now.extents.span loading.now.extents.platform loading.now.stays.now self.new }
     {
-        self.lows.clear();
-        self.highs.clear();
-        for stay in loading.stays {
-            let range = loading.range_of(direction, *stay);
-            self.lows.push(range.low);
-            self.highs.push(range.high);
-        }
+        let stays = loading.stays;
+        self.lows.refill_from(
+            stays
+                .iter()
+                .map(|stay| loading.range_of(direction, *stay).low),
+        );
+        self.highs.refill_from(
+            stays
+                .iter()
+                .map(|stay| loading.range_of(direction, *stay).high),
+        );
     }
 
     pub fn lows(&self) -> &[i16]

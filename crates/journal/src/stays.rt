@@ -3,6 +3,7 @@ ghost use Rattle.std.specs.Prelude.{◌≡◌, ◌≤◌, [], map, length, IfOk}
 ghost use Rattle.boxes.specs.Overlaps.{Sized};
 ghost use Rattle.journal.specs.Stays.{size_of};
 
+use crate::extents::Extents;
 use crate::loading::Loading;
 use crate::model::Stay;
 use crate::tables::Stays;
@@ -13,11 +14,10 @@ use std::alloc::{AllocError, Global};
 impl Stays {
     // No stays, in a span of one step on a platform of one metre.
     pub fn new(heap: Global) -> Result<Stays, AllocError>
-        ensures { IfOk result (λ s. (s.span ≡ 1) × (s.platform ≡ 1) × (s.items ≡ [])) }
+        ensures { IfOk result (λ s. (s.extents.span ≡ 1) × (s.extents.platform ≡ 1) × (s.items ≡ [])) }
     {
         Ok(Stays {
-            span: 1,
-            platform: 1,
+            extents: Extents::LEAST,
             items: Held::new(heap)?,
             sizes: Held::new(heap)?,
         })
@@ -25,36 +25,29 @@ impl Stays {
 
     // These stays in place of those that were there.
     pub fn refill(&mut self, loading: &Loading<'_>)
-        ensures extents { (self.new.span ≡ loading.now.span) × (self.new.platform ≡ loading.now.platform) }
+        ensures extents { self.new.extents ≡ loading.now.extents }
         ensures items { self.new.items ≡ loading.now.stays.now }
     {
-        self.span = loading.span;
-        self.platform = loading.platform;
+        self.extents = loading.extents;
         self.items.refill(loading.stays);
-        measure(&mut self.sizes, loading);
+        self.sizes
+            .refill_from(loading.stays.iter().map(|stay| stay.size()));
     }
 
     // As a new sheet has it.
     pub fn clear(&mut self)
-        ensures extents { (self.new.span ≡ 1) × (self.new.platform ≡ 1) }
+        ensures extents { (self.new.extents.span ≡ 1) × (self.new.extents.platform ≡ 1) }
         ensures items { self.new.items ≡ [] }
     {
-        self.span = 1;
-        self.platform = 1;
+        self.extents = Extents::LEAST;
         self.items.clear();
         self.sizes.clear();
     }
 
-    pub fn span(&self) -> u16
-        ensures { result ≡ self.now.span }
+    pub fn extents(&self) -> Extents
+        ensures { result ≡ self.now.extents }
     {
-        self.span
-    }
-
-    pub fn platform(&self) -> u16
-        ensures { result ≡ self.now.platform }
-    {
-        self.platform
+        self.extents
     }
 
     pub fn items(&self) -> &[Stay]
@@ -78,16 +71,5 @@ impl Stays {
         ensures few { result ≤ 12 }
     {
         self.items.len() as u8
-    }
-}
-
-// What each of the stays takes up.
-fn measure(sizes: &mut Held<Size, 12>, loading: &Loading<'_>)
-    ensures items { sizes.new ≡ map size_of loading.now.stays.now }
-    ensures sized { Sized sizes.new }
-{
-    sizes.clear();
-    for stay in loading.stays {
-        sizes.push(stay.size());
     }
 }

@@ -5,6 +5,7 @@ ghost use Rattle.boxes.specs.Overlaps.{Sized};
 ghost use Rattle.journal.specs.Stays.{size_of};
 ghost use Rattle.journal.specs.Journal.{bounds_on};
 
+use crate::extents::Extents;
 use crate::model::Stay;
 use boxes::{Entry, Size};
 use held::Held;
@@ -12,8 +13,7 @@ use held::Held;
 // The stays, and what each takes up. Kept beside each other: a packing is lent the sizes as a slice, and a settle may need no memory.
 #[derive(Drop)]
 pub struct Stays {
-    pub(crate) span: u16,
-    pub(crate) platform: u16,
+    pub(crate) extents: Extents,
     pub(crate) items: Held<Stay, 12>,
     pub(crate) sizes: Held<Size, 12>,
     ghost measured: { sizes ≡ map size_of items },
@@ -21,6 +21,7 @@ pub struct Stays {
 }
 
 // The entries, oldest first: at most 24 in each direction.
+// Kept without a model: a packing asks that at most 24 bounds stand on each axis, and behind a model nothing tells a settle so.
 #[derive(Drop)]
 pub struct Entries {
     pub(crate) items: Held<Entry, 48>,

@@ -1,6 +1,6 @@
 -- Bytes put on a page, one after the other, and the parts of each of a list.
-use Rattle.std.proofs.Common.{◌≡◌, ℕ, ◌+◌, ◌<◌, ◌≤◌, List, [], ◌∷◌, ◌++◌, length, get_or, drop, sym, refl, ap, ◌∙◌}
-use Rattle.std.proofs.lemmas.List.{at_drop_more, at_drop_all}
+use Rattle.std.proofs.Common.{◌≡◌, ℕ, ◌+◌, ◌<◌, List, [], ◌∷◌, ◌++◌, length, get_or, drop, sym, refl, ap, ◌∙◌}
+use Rattle.std.proofs.lemmas.List.{at_drop_more}
 use Rattle.page.specs.Pages.{put, put_one}
 use Rattle.page.specs.declared.Page.{Page}
 
@@ -19,7 +19,3 @@ module _ {A : Type 0} (part : ℕ → A → List ℕ) (parts : ℕ → List A �
       let rest = parts (i + 1) (drop (i + 1) xs) in
       let next = a.then ∙ at_drop_more (λ ys. put p (parts i ys)) xs i d h ∙ ap (put p) (split (get_or xs i d) _) ∙ put_append p (part i (get_or xs i d)) rest in
       record { then = next ∙ ap (λ (y : A). put (put p (part i y)) rest) (sym is) ∙ ap (λ (page : Page). put page rest) (sym b) }
-
-  pub each_all : (done p : Page) (xs : List A) (i : ℕ) → parts i [] ≡ [] → length xs ≤ i → Left parts done p xs i → p ≡ done
-  unfolding put
-  each_all done p xs i none h a = sym (a.then ∙ at_drop_all (λ ys. put p (parts i ys)) xs i h ∙ ap (put p) none)

@@ -35,7 +35,7 @@ impl<T: Axis, P: Axis> Sheet<T, P> {
     {
         let word = Word::try_from(word)?;
         let count = self.stays.count();
-        // kept as comparisons: with ranges the line is as long, and its goals would need answers
+        // Kept as comparisons: with ranges the line is as long, and its goals would need answers
         if i < 1 || i > count || j < 1 || j > count || i == j {
             return Err(SheetFault::Pair);
         }

@@ -28,7 +28,7 @@ fn line_up<T: Axis, P: Axis>(
     direction: Direction,
     loading: &Loading<'_>,
 )
-    ensures { ResetOn direction axes.old (map (low_on direction) loading.now.stays.now) (map (high_on direction loading.now.span loading.now.platform) loading.now.stays.now) (Ok tt) axes.new }
+    ensures { ResetOn direction axes.old (map (low_on direction) loading.now.stays.now) (map (high_on direction loading.now.extents.span loading.now.extents.platform) loading.now.stays.now) (Ok tt) axes.new }
 {
     ranges.line_up(direction, loading);
     let _ = axes.reset(direction, ranges.lows(), ranges.highs());

@@ -6,7 +6,7 @@ use crate::Sheet;
 use axis::Axis;
 use boxes::{Direction, Entry};
 use faults::SheetFault;
-use journal::Stay;
+use journal::{Extents, Stay};
 
 impl<T: Axis, P: Axis> Sheet<T, P> {
     // The largest difference, p less q, on the axis T or P.
@@ -17,17 +17,23 @@ impl<T: Axis, P: Axis> Sheet<T, P> {
         Ok(self.axes.tightest(direction, p, q)?)
     }
 
+    pub fn extents(&self) -> Extents
+        ensures { (result.span ≡ self.now.span) × (result.platform ≡ self.now.platform) }
+    {
+        self.stays.extents()
+    }
+
     pub fn span(&self) -> u16
         ensures { result ≡ self.now.span }
     {
-        self.stays.span()
+        self.extents().span
     }
 
     // The platform's metres.
     pub fn metres(&self) -> u16
         ensures { result ≡ self.now.platform }
     {
-        self.stays.platform()
+        self.extents().platform
     }
 
     pub fn stays(&self) -> &[Stay]

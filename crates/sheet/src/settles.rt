@@ -19,7 +19,7 @@ impl<T: Axis, P: Axis> Sheet<T, P> {
         ensures same { self.new ≡ self.old }
     {
         let count = self.stays.count();
-        if places.len() < count as usize {
+        if places.len() < usize::from(count) {
             return Err(SheetFault::Places);
         }
         if trials.len() < pair_count(count) {

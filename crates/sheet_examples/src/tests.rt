@@ -60,8 +60,8 @@ fn short(window: Option<Window>) -> Stay {
     }
 }
 
-fn number(answer: Result<(), SheetFault>) -> u8 {
-    answer.err().map_or(0, |fault| fault.number())
+fn number(answer: Result<(), SheetFault>) -> Option<u8> {
+    answer.err().map(|fault| fault.number())
 }
 
 fn load_three<T: Axis, P: Axis>(sheet: &mut Sheet<T, P>) -> Result<(), SheetFault> {
@@ -76,8 +76,8 @@ fn rules<T: Axis, P: Axis>(rt: &impl Abort, sheet: &mut Sheet<T, P>) -> Result<(
     assert_eq!(rt; sheet.ask('T', 1, 0)?, 0);
     assert_eq!(rt; sheet.ask('T', 0, 2)?, -3);
     assert_eq!(rt; sheet.ask('T', 2, 1)?, 3);
-    assert_eq!(rt; number(sheet.rule(2, 1, 'B')), 6);
-    assert_eq!(rt; number(sheet.rule(1, 2, 'N')), 6);
+    assert_eq!(rt; number(sheet.rule(2, 1, 'B')), Some(6));
+    assert_eq!(rt; number(sheet.rule(1, 2, 'N')), Some(6));
     sheet.withdraw()?;
     sheet.rule(2, 1, 'B')?;
     assert_eq!(rt; sheet.ask('T', 0, 1)?, -4);
@@ -107,7 +107,7 @@ fn no_plan<T: Axis, P: Axis>(rt: &impl Abort, sheet: &mut Sheet<T, P>) -> Result
         j: 8,
         word: None,
     }];
-    assert_eq!(rt; number(sheet.settle(&mut places, &mut trials)), 25);
+    assert_eq!(rt; number(sheet.settle(&mut places, &mut trials)), Some(25));
     assert_eq!(rt; places, [place(8, 9); 2]);
     assert_eq!(rt; trials, [BLANK]);
     Ok(())
@@ -117,13 +117,13 @@ fn no_stays<T: Axis, P: Axis>(rt: &impl Abort, sheet: &mut Sheet<T, P>) -> Resul
     sheet.renew();
     sheet.settle(&mut [], &mut [])?;
     sheet.load(2880, 1000, &[])?;
-    assert_eq!(rt; number(sheet.settle(&mut [], &mut [])), 0);
+    assert_eq!(rt; number(sheet.settle(&mut [], &mut [])), None);
     Ok(())
 }
 
 fn itself<T: Axis, P: Axis>(rt: &impl Abort, sheet: &mut Sheet<T, P>) -> Result<(), Fail> {
     load_three(sheet)?;
-    assert_eq!(rt; number(sheet.bind('T', bound(1, 1, -1))), 6);
+    assert_eq!(rt; number(sheet.bind('T', bound(1, 1, -1))), Some(6));
     assert_eq!(rt; sheet.entries().len(), 0);
     sheet.bind('T', bound(1, 1, 0))?;
     assert_eq!(rt; sheet.entries().len(), 1);
@@ -147,9 +147,9 @@ fn windows<T: Axis, P: Axis>(rt: &impl Abort, sheet: &mut Sheet<T, P>) -> Result
 
 fn bad_loads<T: Axis, P: Axis>(rt: &impl Abort, sheet: &mut Sheet<T, P>) {
     let good = short(None);
-    assert_eq!(rt; number(sheet.load(2881, 1000, &[])), 11);
-    assert_eq!(rt; number(sheet.load(2880, 1001, &[])), 11);
-    assert_eq!(rt; number(sheet.load(7, 100, &[good; 13])), 12);
+    assert_eq!(rt; number(sheet.load(2881, 1000, &[])), Some(11));
+    assert_eq!(rt; number(sheet.load(2880, 1001, &[])), Some(11));
+    assert_eq!(rt; number(sheet.load(7, 100, &[good; 13])), Some(12));
     assert_eq!(rt;
         sheet.load(7, 100, &[good, Stay { circuit: 0, ..good }]),
         Err(SheetFault::Circuit(2))
@@ -178,20 +178,20 @@ fn bad_loads<T: Axis, P: Axis>(rt: &impl Abort, sheet: &mut Sheet<T, P>) {
 // The letters are capitals.
 fn bad_entries<T: Axis, P: Axis>(rt: &impl Abort, sheet: &mut Sheet<T, P>) -> Result<(), Fail> {
     load_three(sheet)?;
-    assert_eq!(rt; number(sheet.withdraw()), 21);
+    assert_eq!(rt; number(sheet.withdraw()), Some(21));
     assert_eq!(rt; sheet.ask('t', 1, 0), Err(SheetFault::Letter));
-    assert_eq!(rt; number(sheet.bind('p', bound(1, 2, 0))), 17);
-    assert_eq!(rt; number(sheet.rule(1, 2, 'b')), 19);
-    assert_eq!(rt; number(sheet.rule(1, 1, 'B')), 20);
-    assert_eq!(rt; number(sheet.rule(0, 1, 'B')), 20);
-    assert_eq!(rt; number(sheet.rule(1, 4, 'B')), 20);
+    assert_eq!(rt; number(sheet.bind('p', bound(1, 2, 0))), Some(17));
+    assert_eq!(rt; number(sheet.rule(1, 2, 'b')), Some(19));
+    assert_eq!(rt; number(sheet.rule(1, 1, 'B')), Some(20));
+    assert_eq!(rt; number(sheet.rule(0, 1, 'B')), Some(20));
+    assert_eq!(rt; number(sheet.rule(1, 4, 'B')), Some(20));
     assert_eq!(rt;
         number(sheet.settle(&mut [place(0, 0); 2], &mut [BLANK; 3])),
-        23
+        Some(23)
     );
     assert_eq!(rt;
         number(sheet.settle(&mut [place(0, 0); 3], &mut [BLANK; 2])),
-        24
+        Some(24)
     );
     Ok(())
 }
@@ -202,7 +202,7 @@ fn full<T: Axis, P: Axis>(rt: &impl Abort, sheet: &mut Sheet<T, P>) -> Result<()
     for _ in 0..24 {
         sheet.bind('T', bound(1, 2, 0))?;
     }
-    assert_eq!(rt; number(sheet.bind('T', bound(1, 2, 0))), 18);
+    assert_eq!(rt; number(sheet.bind('T', bound(1, 2, 0))), Some(18));
     sheet.bind('P', bound(1, 2, 0))?;
     assert_eq!(rt; sheet.entries().len(), 25);
     Ok(())

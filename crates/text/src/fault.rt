@@ -18,6 +18,7 @@ impl TextFault {
     }
 }
 
+// Kept without the derive of an error: that promises nothing of the words.
 impl fmt::Display for TextFault {
     ghost output = { λ f. Some (words f) };
 
