@@ -162,9 +162,6 @@ open_parts t (b ∷ bs) cs o =
     let y = open_parts (mend t b) bs cs x.1 in
     (open_cons t b bs x.0 y.0, y.1)
 
-pub open_next : (t : Table) (bs : List Bound) (b : Bound) (cs : List Bound) → open_from t (bs ++ b ∷ cs) ≡ true → pos 0 ≤ℤ (b.d +ℤ mended t bs b.q b.p)
-open_next t bs b cs o = (open_head (mended t bs) b cs (open_parts t bs (b ∷ cs) o).1).0
-
 largest_near : (most : ℕ) (m : Meaning) → Valid most m → (p q : ℕ) (t : ℤ) → Named (lines m) p q → Largest m p q t → (neg_ℤ (pos 2880) ≤ℤ t) × (t ≤ℤ pos 2880)
 largest_near most m v p q t h l =
     let r = valid_right most m v in

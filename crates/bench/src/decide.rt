@@ -8,10 +8,10 @@ ghost use Rattle.bench.specs.Decided.{Decided};
 use crate::packings::Packing;
 use anyhow::ensure;
 use axis::Axis;
-use boxes::{Direction, Place, Size};
+use boxes::{Direction, MOST_BOXES, MOST_PAIRS, Place, Size};
 use moves::Axes;
 use packing::{NoArrangement, pack};
-use stack::{Blank, Trial};
+use stack::Trial;
 use std::alloc::Global;
 
 fn is_sized(size: &Size) -> bool
@@ -58,7 +58,7 @@ pub fn decide<T: Axis, P: Axis>(
     reset(heap, axes, Direction::Time, packing)?;
     reset(heap, axes, Direction::Platform, packing)?;
     // Kept arrays: a packing writes into lent buffers.
-    let mut places = [Place { step: 0, metre: 0 }; 12];
-    let mut trials = [Trial::blank(); 66];
+    let mut places = [Place::default(); MOST_BOXES];
+    let mut trials = [Trial::default(); MOST_PAIRS];
     Ok(pack(axes, sizes.as_slice(), &mut places, &mut trials))
 }

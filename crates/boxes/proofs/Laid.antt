@@ -1,6 +1,6 @@
 -- The list of trials as it is laid out, pair by pair and row by row.
-use Rattle.std.proofs.Common.{◌≡◌, ℕ, suc, ◌+◌, ◌-◌, ◌<◌, ◌≤◌, List, [], ◌∷◌, ◌++◌, map, length, take, set, sym, refl, ap, ◌∙◌, arith}
-use Rattle.std.proofs.lemmas.List.{length-append, map-append, map_push, take_all, take_more_set}
+use Rattle.std.proofs.Common.{◌≡◌, ℕ, suc, ◌+◌, ◌-◌, ◌<◌, List, [], ◌∷◌, ◌++◌, map, length, take, set, sym, refl, ap, ◌∙◌, arith}
+use Rattle.std.proofs.lemmas.List.{length-append, map-append, map_push, take_more_set}
 use Rattle.std.proofs.lemmas.List.FromFn.{length-map-range_with_len, map-range_with_len_more}
 use Rattle.stack.specs.declared.elements.Trial.{Trial}
 use Rattle.boxes.specs.Order.{Pair, row, pairs_from, untried}
@@ -14,9 +14,6 @@ pair_more ts i k h e =
     let pushed : map untried (row i (k + 1)) ≡ map untried (row i k) ++ untried (with i (i + 1 + k)) ∷ [] =
     ap (map untried) (map-range_with_len_more (with i) (i + 1) k (i + 1 + k) refl) ∙ map_push untried (row i k) (with i (i + 1 + k)) in
     take_more_set ts k _ h ∙ ap (λ l. l ++ untried (with i (i + 1 + k)) ∷ []) e ∙ sym pushed
-
-pub row_all : (ts : List Trial) (i k : ℕ) → length ts ≡ k → take k ts ≡ map untried (row i k) → ts ≡ map untried (row i (length ts))
-row_all ts i k h e = sym (take_all k ts (omega arith)) ∙ e ∙ ap (λ c. map untried (row i c)) (sym h)
 
 -- the row of i, and then the rest
 row_first : (i n : ℕ) → i < n → pairs_from i (n - i) ≡ row i (n - i) ++ pairs_from (i + 1) (n - (i + 1))
@@ -36,9 +33,3 @@ row_more first later i n h size f l =
     ∙ ap (λ k. map untried (row i (n - i)) ++ k) l
     ∙ sym (map-append untried (row i (n - i)) (pairs_from (i + 1) (n - (i + 1))))
     ∙ ap (map untried) (sym (row_first i n h))
-
-pub no_rows : (ts : List Trial) (i n : ℕ) → n ≤ i → length ts ≡ length (pairs_from i (n - i)) → ts ≡ map untried (pairs_from i (n - i))
-no_rows ts i n h size =
-    let z : n - i ≡ 0 = omega arith in
-    let none : pairs_from i (n - i) ≡ [] = ap (pairs_from i) z in
-    sym (take_all 0 ts (omega (arith, ap length none))) ∙ ap (map untried) (sym none)

@@ -1,10 +1,10 @@
 -- Two boxes are free of overlap exactly when a word holds of them, and the bound of a word says the same.
-use Rattle.std.proofs.Common.{ℕ, ◌-◌, ◌≤◌, List, length, ℤ, pos, ◌+ℤ◌, neg_ℤ, ◌≤ℤ◌, ◌<ℤ◌, arith}
+use Rattle.std.proofs.Common.{◌≡◌, ℕ, ◌-◌, ◌≤◌, List, length, ℤ, pos, ◌+ℤ◌, neg_ℤ, ◌≤ℤ◌, ◌<ℤ◌, refl, arith}
 use Rattle.std.proofs.lemmas.Int.{ints, by_lt_z}
 use Rattle.stack.specs.declared.elements.Word.{Word}
 use Rattle.stack.specs.declared.elements.Word.TheVariants.{Before, After, Nearer, Farther}
 use Rattle.boxes.specs.declared.model.Size.{Size}
-use Rattle.boxes.specs.Overlaps.{Holds, Sized, wide, long, ruled, Overlap, HoldsWord, Keeps, WordsTell}
+use Rattle.boxes.specs.Overlaps.{Holds, Sized, wide, long, ruled, side, Overlap, HoldsWord, Keeps, WordsTell}
 
 -- two spans of which neither ends before the other begins hold a common place: the later beginning
 common : (a b : ℤ) (v w : ℕ) → 1 ≤ v → 1 ≤ w → b <ℤ (a +ℤ pos v) → a <ℤ (b +ℤ pos w) → (s : ℤ) × (Holds a v s × Holds b w s)
@@ -57,6 +57,12 @@ module _ (sizes : List Size) where
   keeps_word x y i j After h = omega (arith, ints)
   keeps_word x y i j Nearer h = omega (arith, ints)
   keeps_word x y i j Farther h = omega (arith, ints)
+
+  pub ruled_side : (i j : ℕ) (w : Word) → side w ≡ (ruled sizes i j w).direction
+  ruled_side i j Before = refl
+  ruled_side i j After = refl
+  ruled_side i j Nearer = refl
+  ruled_side i j Farther = refl
 
   -- lines 0 to n, and a length that an axis takes
   pub ruled_named : (i j n : ℕ) (w : Word) → i ≤ n → j ≤ n → ((ruled sizes i j w).bound.p ≤ n) × ((ruled sizes i j w).bound.q ≤ n)

@@ -55,6 +55,13 @@ abbrev pub in_direction : {V : Type 0} → V → V → Direction → V
 in_direction time platform Time = time
 in_direction time platform Platform = platform
 
+-- which axis a word speaks of
+abbrev pub side : Word → Direction
+side Before = Time
+side After = Time
+side Nearer = Platform
+side Farther = Platform
+
 -- the values of its direction keep the bound
 abbrev pub Keeps : (ℕ → ℤ) → (ℕ → ℤ) → Entry → Type 0
 Keeps x y e = (in_direction x y e.direction e.bound.p -ℤ in_direction x y e.direction e.bound.q) ≤ℤ e.bound.d

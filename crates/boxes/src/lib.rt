@@ -8,5 +8,5 @@ mod words;
 
 pub use letters::NoDirection;
 pub use model::{Direction, Entry, Place, Size};
-pub use order::{clear, lay_out, pair_count};
+pub use order::{MOST_BOXES, MOST_PAIRS, clear, lay_out, pair_count};
 pub use words::{ruling, words_tell};

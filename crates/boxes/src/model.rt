@@ -1,8 +1,9 @@
 // A box's extent and place, and a bound on one of the two axes.
 ghost use Rattle.std.specs.Prelude.{◌≡◌};
-ghost use Rattle.boxes.specs.Overlaps.{in_direction};
+ghost use Rattle.boxes.specs.Overlaps.{in_direction, side};
 
 use axis::Bound;
+use stack::Word;
 
 // A box lasts so many steps and is so many metres long.
 #[derive(Clone, Copy, PartialEq, Eq, Debug)]
@@ -21,7 +22,7 @@ impl Size {
 }
 
 // A box at this place holds the steps from `step` on and the metres from `metre` on.
-#[derive(Clone, Copy, PartialEq, Eq, Debug)]
+#[derive(Clone, Copy, PartialEq, Eq, Debug, Default)]
 pub struct Place {
     pub step: u16,
     pub metre: u16,
@@ -41,6 +42,18 @@ impl Direction {
         match self {
             Direction::Time => time,
             Direction::Platform => platform,
+        }
+    }
+}
+
+// The axis that the word speaks of.
+impl From<Word> for Direction {
+    ghost from_gives = { λ word direction. direction ≡ side word };
+
+    fn from(word: Word) -> Direction {
+        match word {
+            Word::Before | Word::After => Direction::Time,
+            Word::Nearer | Word::Farther => Direction::Platform,
         }
     }
 }

@@ -2,14 +2,20 @@
 ghost use Rattle.std.specs.Prelude.{◌≡◌, ◌+◌, ◌-◌, ◌≤◌, map, length, replicate};
 ghost use Rattle.boxes.specs.Order.{pairs, pairs_from, row as row_of, trial_order, untried, no_trial};
 
-use stack::{Blank, Trial};
+use stack::Trial;
+
+// The most boxes that are placed together, and how many pairs they make.
+pub const MOST_BOXES: usize = 12;
+
+pub const MOST_PAIRS: usize = MOST_BOXES * (MOST_BOXES - 1) / 2;
 
 // How many pairs n boxes make. Kept as a premise here and below: each call has a number of its own, and a type for it would be no plainer.
 pub fn pair_count(n: u8) -> usize
     requires { n ≤ 12 }
-    ensures { result ≡ pairs n }
+    ensures pairs { result ≡ pairs n }
+    ensures few { result ≤ MOST_PAIRS }
 {
-    let boxes = n as usize;
+    let boxes = usize::from(n);
     boxes * boxes.saturating_sub(1) / 2
 }
 
@@ -51,5 +57,5 @@ fn lay_row(i: u8, row: &mut [Trial])
 pub fn clear(trials: &mut [Trial])
     ensures { trials.new ≡ replicate (length trials.old) no_trial }
 {
-    trials.fill(<Trial as Blank>::blank());
+    trials.fill(Trial::default());
 }

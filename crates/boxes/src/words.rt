@@ -14,13 +14,12 @@ pub fn ruling(sizes: &[Size], i: u8, j: u8, word: Word) -> Entry
     ensures { result ≡ ruled sizes.now i j word }
 {
     // box p is gone when box q comes, or ends where box q begins or nearer to metre 0
-    let (direction, p, q) = match word {
-        Word::Before => (Direction::Time, i, j),
-        Word::After => (Direction::Time, j, i),
-        Word::Nearer => (Direction::Platform, i, j),
-        Word::Farther => (Direction::Platform, j, i),
+    let (p, q) = match word {
+        Word::Before | Word::Nearer => (i, j),
+        Word::After | Word::Farther => (j, i),
     };
-    let extent = sizes[p as usize - 1].along(direction);
+    let direction = Direction::from(word);
+    let extent = sizes[usize::from(p) - 1].along(direction);
     Entry {
         direction,
         bound: Bound {

@@ -72,7 +72,7 @@ impl<T: Copy, const MOST: usize> Held<T, MOST> {
         self.refill_from(items.iter().copied());
     }
 
-    // What the iterator gives in place of what was there.
+    // What the iterator gives in place of what was there. The second clause says it of a run, as the library's chains do.
     pub fn refill_from<I: Iterator<Item = T>>(&mut self, items: I)
         requires callable { I.can_next items }
         requires few { UpTo (I.remaining items) MOST }

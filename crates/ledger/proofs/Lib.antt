@@ -1,2 +1,2 @@
 pub mod Open
-mod Standing
+mod Sounds

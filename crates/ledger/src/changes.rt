@@ -3,7 +3,7 @@ ghost use Rattle.std.specs.Prelude.{◌≡◌, ℕ, ◌<◌, ◌≤◌, IsTrue, 
 ghost use Rattle.axis.specs.Meaning.{new, lines, with_bound};
 ghost use Rattle.axis.specs.Asks.{Reset, Within, Paired, Ordered};
 ghost use Rattle.axis.specs.Distance.{Open};
-ghost use Rattle.ledger.specs.Means.{means, Gone};
+ghost use Rattle.ledger.specs.Means.{Sound, Gone};
 ghost use Rattle.ledger.specs.Ranges.{every_low, every_high};
 
 use crate::Ledger;
@@ -13,7 +13,8 @@ use std::alloc::{AllocError, Global};
 
 impl Ledger {
     pub fn new(heap: Global) -> Result<Ledger, AllocError>
-        ensures { IfOk result (λ l. means l ≡ new) }
+        ensures value { IfOk result (λ l. l ≡ new) }
+        ensures sound { IfOk result (λ l. Sound l) }
     {
         let ranges = Held::new(heap)?;
         let bounds = Held::new(heap)?;
@@ -23,7 +24,8 @@ impl Ledger {
     // New lines with these ranges, and no bounds.
     // Kept two lists: the first question is whether they are equally long.
     pub fn reset(&mut self, lows: &[i16], highs: &[i16]) -> Result<(), AxisFault>
-        ensures { Reset (means self.old) lows.now highs.now result (means self.new) }
+        ensures after { Reset self.old lows.now highs.now result self.new }
+        ensures sound { Sound self.old → Sound self.new }
     {
         if lows.len() != highs.len() || lows.len() > 12 {
             return Err(AxisFault::Lists);
@@ -37,17 +39,19 @@ impl Ledger {
     }
 
     pub fn push(&mut self, bound: Bound)
-        requires within { Within (lines (means self.old)) bound }
-        requires space { length (means self.old).bounds < 90 }
-        ensures { means self.new ≡ with_bound (means self.old) bound }
+        requires within { Within (lines self.old) bound }
+        requires space { length self.old.bounds < 90 }
+        ensures after { self.new ≡ with_bound self.old bound }
+        ensures sound { Sound self.old → Sound self.new }
     {
         self.bounds.push(bound);
     }
 
     // The newest bound goes.
     pub fn pop(&mut self) -> Result<Bound, AxisFault>
-        ensures after { Gone (means self.old) result (means self.new) }
-        ensures opens { Open (means self.old) → Open (means self.new) }
+        ensures after { Gone self.old result self.new }
+        ensures sound { Sound self.old → Sound self.new }
+        ensures opens { Open self.old → Open self.new }
     {
         self.bounds.pop().ok_or(AxisFault::NoBound)
     }
@@ -59,10 +63,11 @@ fn refill(ranges: &mut Held<Range, 12>, lows: &[i16], highs: &[i16])
     ensures least { every_low ranges.new ≡ lows.now }
     ensures greatest { every_high ranges.new ≡ highs.now }
 {
-    ranges.clear();
-    for (&low, &high) in lows.iter().zip(highs) {
-        ranges.push(Range { low, high });
-    }
+    ranges.refill_from(
+        lows.iter()
+            .zip(highs)
+            .map(|(&low, &high)| Range { low, high }),
+    );
 }
 
 // Is every low from 0 to 2880, and every high from its low to 2880?

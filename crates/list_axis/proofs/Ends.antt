@@ -3,45 +3,44 @@ use Rattle.std.proofs.Common.{◌≡◌, ℕ, ◌≤◌, List, ℤ, ◌+ℤ◌, 
 use Rattle.std.proofs.lemmas.Int.{ints}
 use Rattle.std.proofs.lemmas.Bool.{cases_eq}
 use Rattle.axis.specs.Meaning.{Meaning, lines, Placement, down, up, Walk}
-use Rattle.axis.specs.Distance.{Open, base, distance}
+use Rattle.axis.specs.Distance.{base, distance}
 use Rattle.axis.proofs.Walks.{walk_kept}
 use Rattle.axis.proofs.Tables.{base_self, base_over}
 use Rattle.axis.proofs.Distances.{in_order}
-use Rattle.ledger.specs.declared.Ledger.{Ledger}
-use Rattle.ledger.specs.Means.{means}
 use Rattle.ledger.specs.Lengths.{Near}
+use Rattle.ledger.specs.Means.{Standing}
 use Rattle.ledger.proofs.Open.{ledger_right}
 use Rattle.list_axis.specs.declared.lengths.Lengths.{Lengths}
 use Rattle.list_axis.specs.Rows.{entry, Found, EdgesKept, Complete}
 use Rattle.list_axis.proofs.Told.{shortest_length}
 
-module _ (l : Ledger) where
-  base_near : (i j : ℕ) → i ≤ lines (means l) → j ≤ lines (means l) → Near (base (means l).lows (means l).highs i j)
+module _ (m : Meaning) (s : Standing m) where
+  base_near : (i j : ℕ) → i ≤ lines m → j ≤ lines m → Near (base m.lows m.highs i j)
   base_near i j hi hj =
-      let a = in_order _ _ l.paired l.ordered i hi in
-      let b = in_order _ _ l.paired l.ordered j hj in
+      let a = in_order _ _ s.0.paired s.0.ordered i hi in
+      let b = in_order _ _ s.0.paired s.0.ordered j hj in
       elim (cases_eq i j) [
-        | inl e ↦ (let z = base_self (means l).lows (means l).highs i j e in (omega (arith, ints), omega (arith, ints)))
-        | inr n ↦ (let z = base_over (means l).lows (means l).highs i j n in (omega (arith, ints), omega (arith, ints)))
+        | inl e ↦ (let z = base_self m.lows m.highs i j e in (omega (arith, ints), omega (arith, ints)))
+        | inr n ↦ (let z = base_over m.lows m.highs i j n in (omega (arith, ints), omega (arith, ints)))
       ]
 
   -- no bound makes a length longer
-  base_far : Open (means l) → (i j : ℕ) → i ≤ lines (means l) → j ≤ lines (means l) → distance (means l) i j ≤ℤ base (means l).lows (means l).highs i j
-  base_far o i j hi hj =
-      let r = ledger_right l o in
+  base_far : (i j : ℕ) → i ≤ lines m → j ≤ lines m → distance m i j ≤ℤ base m.lows m.highs i j
+  base_far i j hi hj =
+      let r = ledger_right m s in
       let a = r.tight i 0 _ (down i hi) in
       let b = r.tight 0 j _ (up j hj) in
       let c = r.round i 0 j hi (omega arith) hj in
       elim (cases_eq i j) [
-        | inl e ↦ (let z = base_self (means l).lows (means l).highs i j e in let s = r.self i hi in let t : distance (means l) i j ≡ distance (means l) i i = cc in omega (arith, ints))
-        | inr n ↦ (let z = base_over (means l).lows (means l).highs i j n in omega (arith, ints))
+        | inl e ↦ (let z = base_self m.lows m.highs i j e in let s = r.self i hi in let t : distance m i j ≡ distance m i i = cc in omega (arith, ints))
+        | inr n ↦ (let z = base_over m.lows m.highs i j n in omega (arith, ints))
       ]
 
-  pub base_found : Open (means l) → (s : ℕ) → s ≤ lines (means l) → (row : List ℤ) → ((j : ℕ) → j ≤ lines (means l) → entry row j ≡ base (means l).lows (means l).highs s j) → Found (means l) s row
-  base_found o s h row is = record {
-    home = omega (arith, ints, is s h, base_self (means l).lows (means l).highs s s refl);
-    far = λ j hj. let b = base_far o s j h hj in omega (arith, ints, is j hj);
-    near = λ j hj. let b = base_near s j h hj in let e = is j hj in (omega (arith, ints), omega (arith, ints));
+  pub base_found : (i : ℕ) → i ≤ lines m → (row : List ℤ) → ((j : ℕ) → j ≤ lines m → entry row j ≡ base m.lows m.highs i j) → Found m i row
+  base_found i h row is = record {
+    home = omega (arith, ints, is i h, base_self m.lows m.highs i i refl);
+    far = λ j hj. let b = base_far i j h hj in omega (arith, ints, is j hj);
+    near = λ j hj. let b = base_near i j h hj in let e = is j hj in (omega (arith, ints), omega (arith, ints));
   }
 
 module _ (m : Meaning) (row : List ℤ) (k : EdgesKept m row) where
@@ -57,9 +56,9 @@ module _ (m : Meaning) (row : List ℤ) (k : EdgesKept m row) where
   settled_least p q x w = let a = walk_kept m _ settled p q x w in omega (arith, ints)
 
 -- a row that no edge shortens
-row_complete : (l : Lengths) → EdgesKept (means l.ledger.now) l.row → Complete (means l.ledger.now) l.start l.row
+row_complete : (l : Lengths) → EdgesKept l.ledger.now l.row → Complete l.ledger.now l.start l.row
 row_complete l k q h =
-    let m = means l.ledger.now in
+    let m = l.ledger.now in
     let w = (ledger_right l.ledger.now l.standing).walk l.start q l.line h in
     let a = settled_least m l.row k l.start q _ w in
     let b = l.found.far q h in
@@ -67,7 +66,7 @@ row_complete l k q h =
     let e : entry l.row q ≡ distance m l.start q = omega (arith, ints) in
     shortest_length l.ledger.now l.standing l.start q (entry l.row q) l.line h e
 
-pub kept_complete : (l : Lengths) (ledger : Ledger) (start : ℕ) → l.ledger.now ≡ ledger → l.start ≡ start → EdgesKept (means ledger) l.row → Complete (means ledger) start l.row
+pub kept_complete : (l : Lengths) (ledger : Meaning) (start : ℕ) → l.ledger.now ≡ ledger → l.start ≡ start → EdgesKept ledger l.row → Complete ledger start l.row
 kept_complete l ledger start e s k =
-    subst (λ x. Complete (means ledger) x l.row) s
-    (subst (λ x. Complete (means x) l.start l.row) e (row_complete l (subst (λ x. EdgesKept (means x) l.row) (sym e) k)))
+    subst (λ x. Complete ledger x l.row) s
+    (subst (λ m. Complete m l.start l.row) e (row_complete l (subst (λ m. EdgesKept m l.row) (sym e) k)))

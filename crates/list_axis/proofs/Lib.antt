@@ -3,3 +3,4 @@ mod Totals
 mod Told
 mod Steps
 mod Ends
+mod Ahead

@@ -9,9 +9,8 @@ use Rattle.axis.specs.declared.model.Bound.{Bound}
 use Rattle.axis.specs.Meaning.{Meaning, lines, bound, down, up}
 use Rattle.axis.specs.Distance.{Right, distance}
 use Rattle.axis.proofs.Distances.{in_order, right_near}
-use Rattle.ledger.specs.declared.Ledger.{Ledger}
-use Rattle.ledger.specs.Means.{means}
 use Rattle.ledger.specs.Lengths.{Near}
+use Rattle.ledger.specs.Means.{Standing}
 use Rattle.ledger.proofs.Open.{ledger_right}
 use Rattle.list_axis.specs.declared.lengths.Lengths.{Lengths}
 use Rattle.list_axis.specs.Rows.{entry, Found, IsEdge, total, Kept, BoundsKept, highest, lowest}
@@ -33,30 +32,30 @@ module _ {J K : Meaning → List ℤ → Type 0} {a b : Lengths} where
         let k = passed_falls y g in
         elim (or_cases x y e) [ inl z ↦ (let l = f.fell z in omega arith) | inr z ↦ (let l = g.fell z in omega arith) ];
     still = λ e. let z = or_parts x y e in g.still z.1 ∙ f.still z.0;
-    kept = λ e. let z = or_parts x y e in (subst (J (means a.ledger.now)) (sym (g.still z.1)) (f.kept z.0), subst (λ l. K (means l) c.row) f.ledger (g.kept z.1));
+    kept = λ e. let z = or_parts x y e in (subst (J a.ledger.now) (sym (g.still z.1)) (f.kept z.0), subst (λ m. K m c.row) f.ledger (g.kept z.1));
   }
 
-  pub passed_weaker : (x : Bool) → ((row : List ℤ) → J (means a.ledger.now) row → K (means a.ledger.now) row) → Passed J a b x → Passed K a b x
+  pub passed_weaker : (x : Bool) → ((row : List ℤ) → J a.ledger.now row → K a.ledger.now row) → Passed J a b x → Passed K a b x
   passed_weaker x w f = record { ledger = f.ledger; start = f.start; fell = f.fell; still = f.still; kept = λ e. w _ (f.kept e) }
 
 -- the range of a line is two edges
-module _ (l : Ledger) (r : ℕ) (h : r ≤ lines (means l)) where
-  pub down_edge : IsEdge (means l) (highest (means l) r)
-  down_edge = let o = in_order _ _ l.paired l.ordered r h in (down r h, ((h, omega arith), (omega (arith, ints), omega (arith, ints))))
+module _ (m : Meaning) (s : Standing m) (r : ℕ) (h : r ≤ lines m) where
+  pub down_edge : IsEdge m (highest m r)
+  down_edge = let o = in_order _ _ s.0.paired s.0.ordered r h in (down r h, ((h, omega arith), (omega (arith, ints), omega (arith, ints))))
 
-  pub up_edge : IsEdge (means l) (lowest (means l) r)
-  up_edge = let o = in_order _ _ l.paired l.ordered r h in (up r h, ((omega arith, h), (omega (arith, ints), omega (arith, ints))))
+  pub up_edge : IsEdge m (lowest m r)
+  up_edge = let o = in_order _ _ s.0.paired s.0.ordered r h in (up r h, ((omega arith, h), (omega (arith, ints), omega (arith, ints))))
 
 -- the way along an edge is shorter
-module _ (l : Lengths) (b : Bound) (e : IsEdge (means l.ledger.now) b) (x : ℤ) (is : x ≡ entry l.row b.p +ℤ b.d) (h : x <ℤ entry l.row b.q) where
+module _ (l : Lengths) (b : Bound) (e : IsEdge l.ledger.now b) (x : ℤ) (is : x ≡ entry l.row b.p +ℤ b.d) (h : x <ℤ entry l.row b.q) where
   abbrev m : Meaning
-  m = means l.ledger.now
+  m = l.ledger.now
 
   abbrev after : List ℤ
   after = set l.row b.q x
 
   right : Right m (distance m)
-  right = ledger_right l.ledger.now l.standing
+  right = ledger_right m l.standing
 
   far_on : distance m l.start b.q ≤ℤ x
   far_on =
@@ -66,10 +65,10 @@ module _ (l : Lengths) (b : Bound) (e : IsEdge (means l.ledger.now) b) (x : ℤ)
       omega (arith, ints)
 
   floor : neg_ℤ (pos 2880) ≤ℤ x
-  floor = let n = right_near m (distance m) right l.ledger.now.paired l.ledger.now.ordered l.start b.q l.line e.1.0.1 in let f = far_on in omega (arith, ints)
+  floor = let n = right_near m (distance m) right l.standing.0.paired l.standing.0.ordered l.start b.q l.line e.1.0.1 in let f = far_on in omega (arith, ints)
 
   within : b.q < length l.row
-  within = let few = l.ledger.now.paired.1 in let size = l.full in let i = e.1.0.1 in omega arith
+  within = let few = l.standing.0.paired.1 in let size = l.full in let i = e.1.0.1 in omega arith
 
   -- what holds of the new length and of every old one holds of each
   each : (P : ℕ → ℤ → Type 0) → P b.q x → (j : ℕ) → P j (entry l.row j) → P j (entry after j)
@@ -97,5 +96,5 @@ bounds_more bs i d h row k b x = elim (has_push_cases (take i bs) (get_or bs i d
   | inr e ↦ subst (λ c. Kept c row) e k.1
 ]
 
-pub bound_edge : (l : Ledger) (bs : List Bound) (i : ℕ) (d : Bound) → bs ≡ (means l).bounds → i < length bs → IsEdge (means l) (get_or bs i d)
-bound_edge l bs i d e h = let x : ContainsAt (means l).bounds (get_or bs i d) = subst (λ xs. ContainsAt xs (get_or bs i d)) e (has_get_or bs i d h) in (bound _ x, l.within _ x)
+pub bound_edge : (m : Meaning) (s : Standing m) (bs : List Bound) (i : ℕ) (d : Bound) → bs ≡ m.bounds → i < length bs → IsEdge m (get_or bs i d)
+bound_edge m s bs i d e h = let x : ContainsAt m.bounds (get_or bs i d) = subst (λ xs. ContainsAt xs (get_or bs i d)) e (has_get_or bs i d h) in (bound _ x, s.0.within _ x)

@@ -1,7 +1,6 @@
 -- What relaxing some edges does to the lengths from one line.
 use Rattle.std.specs.Prelude.{◌≡◌, ◌<◌, Bool, true, false, List, ℤ}
 use Rattle.axis.specs.Meaning.{Meaning}
-use Rattle.ledger.specs.Means.{means}
 use Rattle.list_axis.specs.Rows.{total}
 use Rattle.list_axis.specs.declared.lengths.Lengths.{Lengths}
 
@@ -11,4 +10,4 @@ pub record Passed (K : Meaning → List ℤ → Type 0) (before after : Lengths)
   pub start : after.start ≡ before.start
   pub fell : changed ≡ true → total after.row < total before.row
   pub still : changed ≡ false → after.row ≡ before.row
-  pub kept : changed ≡ false → K (means before.ledger.now) after.row
+  pub kept : changed ≡ false → K before.ledger.now after.row

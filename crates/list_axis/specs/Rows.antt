@@ -1,10 +1,10 @@
 -- A row of lengths from one line: what it holds at any time, what relaxing edges does to it, and what it tells in the end.
-use Rattle.std.specs.Prelude.{◌≡◌, ℕ, suc, ◌+◌, ◌-◌, ◌<◌, ◌≤◌, List, [], ◌∷◌, ℤ, pos, negsuc, ◌+ℤ◌, neg_ℤ, ◌≤ℤ◌, ◌<ℤ◌, slice_index_or}
+use Rattle.std.specs.Prelude.{◌≡◌, ℕ, suc, ◌+◌, ◌-◌, ◌<◌, ◌≤◌, List, [], ◌∷◌, ℤ, pos, negsuc, ◌+ℤ◌, neg_ℤ, ◌≤ℤ◌, slice_index_or}
 use Rattle.std.specs.List.{ContainsAt}
 use Rattle.axis.specs.declared.model.Bound.{Bound}
-use Rattle.axis.specs.Meaning.{Meaning, with_bound, lines, low, high, Edge, Remains}
+use Rattle.axis.specs.Meaning.{Meaning, lines, low, high, Edge}
 use Rattle.axis.specs.Asks.{Within, Tightest}
-use Rattle.axis.specs.Distance.{Open, distance}
+use Rattle.axis.specs.Distance.{distance}
 use Rattle.ledger.specs.Lengths.{Near}
 
 -- the length to line j
@@ -55,13 +55,11 @@ abbrev pub total : List ℤ → ℕ
 total [] = 0
 total (x ∷ xs) = above x + total xs
 
--- x is the length from p to q, and tells whether a bound from q back to p leaves a placement
+-- x is the length from p to q
 pub record Length (m : Meaning) (p q : ℕ) (x : ℤ) : Type 0 where
+  pub value : x ≡ distance m p q
   pub near : Near x
   pub tightest : Tightest m p q x
-  pub refuses : (b : Bound) → b.p ≡ q → b.q ≡ p → (x +ℤ b.d) <ℤ pos 0 → ¬ (Remains (with_bound m b))
-  pub leaves : (b : Bound) → b.p ≡ q → b.q ≡ p → pos 0 ≤ℤ (x +ℤ b.d) → Remains (with_bound m b)
-  pub opens : (b : Bound) → b.p ≡ q → b.q ≡ p → pos 0 ≤ℤ (x +ℤ b.d) → Open (with_bound m b)
 
 -- the row has the lengths from line s
 abbrev pub Complete : Meaning → ℕ → List ℤ → Type 0

@@ -1,8 +1,7 @@
 // The lengths from one line, worked out by relaxing the edges until none shortens a way.
 ghost use Rattle.std.specs.Prelude.{◌≡◌, ◌≤◌, length};
-ghost use Rattle.axis.specs.Distance.{Open};
 ghost use Rattle.axis.specs.Meaning.{lines};
-ghost use Rattle.ledger.specs.Means.{means};
+ghost use Rattle.ledger.specs.Means.{Standing};
 ghost use Rattle.list_axis.specs.Rows.{Found, Complete};
 
 use ledger::Ledger;
@@ -14,17 +13,17 @@ pub struct Lengths<'a> {
     pub ledger: &'a Ledger,
     pub start: usize,
     pub row: [i16; 13],
-    ghost standing: { Open (means ledger.now) },
-    ghost line: { start ≤ lines (means ledger.now) },
+    ghost standing: { Standing ledger.now },
+    ghost line: { start ≤ lines ledger.now },
     ghost full: { length row ≡ 13 },
-    ghost found: { Found (means ledger.now) start row },
+    ghost found: { Found ledger.now start row },
 }
 
 // The length to line j is at place j.
 pub fn lengths_from(ledger: &Ledger, start: usize) -> [i16; 13]
-    requires standing { Open (means ledger.now) }
-    requires line { start ≤ lines (means ledger.now) }
-    ensures { Complete (means ledger.now) start result }
+    requires standing { Standing ledger.now }
+    requires line { start ≤ lines ledger.now }
+    ensures { Complete ledger.now start result }
 {
     let row = ways_over_zero(ledger, start);
     let mut lengths = Lengths { ledger, start, row };
@@ -34,9 +33,9 @@ pub fn lengths_from(ledger: &Ledger, start: usize) -> [i16; 13]
 
 // Every way leads over line 0.
 fn ways_over_zero(ledger: &Ledger, start: usize) -> [i16; 13]
-    requires standing { Open (means ledger.now) }
-    requires line { start ≤ lines (means ledger.now) }
-    ensures { Found (means ledger.now) start result }
+    requires standing { Standing ledger.now }
+    requires line { start ≤ lines ledger.now }
+    ensures { Found ledger.now start result }
 {
     let n = ledger.lines();
     // what stands past the last line is never read

@@ -1,8 +1,7 @@
 // The list axis keeps the bounds alone, no table, and works lengths out when asked.
 #![tactic(auto)]
 
-ghost use Rattle.axis.specs.Distance.{Open};
-ghost use Rattle.ledger.specs.Means.{means};
+ghost use Rattle.ledger.specs.Means.{Standing};
 
 use ledger::Ledger;
 
@@ -10,9 +9,8 @@ mod calls;
 mod lengths;
 mod passes;
 
-// No bound closes a ring of negative length, so a placement exists.
 #[derive(Drop)]
 pub struct ListAxis {
     ledger: Ledger,
-    ghost open: { Open (means ledger) },
+    ghost standing: { Standing ledger },
 }

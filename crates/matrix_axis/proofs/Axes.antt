@@ -6,7 +6,6 @@ use Rattle.axis.specs.Asks.{Named, Tightest}
 use Rattle.axis.specs.Distance.{distance, Right}
 use Rattle.axis.proofs.Tables.{base_self}
 use Rattle.axis.proofs.Distances.{right_near, right_tightest}
-use Rattle.ledger.specs.Means.{means}
 use Rattle.ledger.specs.Lengths.{Near}
 use Rattle.ledger.proofs.Open.{ledger_right}
 use Rattle.matrix_axis.specs.declared.MatrixAxis.{MatrixAxis}
@@ -14,17 +13,17 @@ use Rattle.matrix_axis.specs.Cells.{entry, cell, Kept, Closed}
 use Rattle.matrix_axis.proofs.Kept.{right_closed}
 
 module _ (a : MatrixAxis) where
-  right : Right (means a.ledger) (distance (means a.ledger))
-  right = ledger_right a.ledger a.«open»
+  right : Right a.ledger (distance a.ledger)
+  right = ledger_right a.ledger a.standing
 
-  pub axis_closed : Closed (lines (means a.ledger)) (cell a.table.rows)
-  axis_closed = right_closed (means a.ledger) (distance (means a.ledger)) a.table.rows right a.ledger.paired a.ledger.ordered a.kept
+  pub axis_closed : Closed (lines a.ledger) (cell a.table.rows)
+  axis_closed = right_closed a.ledger (distance a.ledger) a.table.rows right a.standing.0.paired a.standing.0.ordered a.kept
 
-  pub axis_near : (p q : ℕ) (t : ℤ) → Named (lines (means a.ledger)) p q → t ≡ distance (means a.ledger) p q → Near t
-  axis_near p q t h e = subst Near (sym e) (right_near (means a.ledger) (distance (means a.ledger)) right a.ledger.paired a.ledger.ordered p q h.0 h.1)
+  pub axis_near : (p q : ℕ) (t : ℤ) → Named (lines a.ledger) p q → t ≡ distance a.ledger p q → Near t
+  axis_near p q t h e = subst Near (sym e) (right_near a.ledger (distance a.ledger) right a.standing.0.paired a.standing.0.ordered p q h.0 h.1)
 
-  pub axis_tightest : (p q : ℕ) (t : ℤ) → Named (lines (means a.ledger)) p q → t ≡ distance (means a.ledger) p q → Tightest (means a.ledger) p q t
-  axis_tightest p q t h e = subst (Tightest (means a.ledger) p q) (sym e) (right_tightest (means a.ledger) (distance (means a.ledger)) right p q h)
+  pub axis_tightest : (p q : ℕ) (t : ℤ) → Named (lines a.ledger) p q → t ≡ distance a.ledger p q → Tightest a.ledger p q t
+  axis_tightest p q t h e = subst (Tightest a.ledger p q) (sym e) (right_tightest a.ledger (distance a.ledger) right p q h)
 
 -- the table of no lines
 pub kept_new : (m : Meaning) (rows : List (List ℤ)) → m ≡ new → rows ≡ replicate 13 (replicate 13 (pos 0)) → Kept rows m

@@ -9,6 +9,7 @@ use Rattle.axis.specs.Meaning.{Meaning, with_bound, lines}
 use Rattle.axis.specs.Asks.{Paired, Ordered, Named, AllWithin}
 use Rattle.axis.specs.Distance.{Table, base, mend, mended, distance, Open, Right}
 use Rattle.axis.proofs.Distances.{distance_right, right_near, mended_push, open_parts}
+use Rattle.ledger.specs.Means.{Standing}
 use Rattle.matrix_axis.specs.Cells.{cell, Same, Kept, Closed}
 
 pub right_closed : (m : Meaning) (t : Table) (rows : List (List ℤ)) → Right m t → Paired m.lows m.highs → Ordered m.lows m.highs → Same (lines m) rows t → Closed (lines m) (cell rows)
@@ -36,23 +37,23 @@ kept_put m after b old new e h k s =
     (λ i j n. same_mend (lines m) old new (distance m) b h k s i j n ∙ ap (λ (t : Table). t i j) (sym (mended_push (base m.lows m.highs) m.bounds b)))
 
 -- the table with the k oldest bounds
-module _ (m : Meaning) (paired : Paired m.lows m.highs) (ordered : Ordered m.lows m.highs) (within : AllWithin (lines m) m.bounds) (o : Open m) (k : ℕ) where
+module _ (m : Meaning) (s : Standing m) (k : ℕ) where
   abbrev oldest : Meaning
   oldest = record { lows = m.lows; highs = m.highs; bounds = take k m.bounds }
 
   oldest_right : Right oldest (distance oldest)
   oldest_right =
       let e = take-append-drop k m.bounds in
-      distance_right oldest paired ordered
-      (λ b h. subst (AllWithin (lines m)) (sym e) within b (has_append_left (take k m.bounds) (drop k m.bounds) b h))
-      (open_parts (base m.lows m.highs) (take k m.bounds) (drop k m.bounds) (subst (λ bs. Open (record { lows = m.lows; highs = m.highs; bounds = bs })) (sym e) o)).0
+      distance_right oldest s.0.paired s.0.ordered
+      (λ b h. subst (AllWithin (lines m)) (sym e) s.0.within b (has_append_left (take k m.bounds) (drop k m.bounds) b h))
+      (open_parts (base m.lows m.highs) (take k m.bounds) (drop k m.bounds) (subst (λ bs. Open (record { lows = m.lows; highs = m.highs; bounds = bs })) (sym e) s.1)).0
 
   pub oldest_closed : (rows : List (List ℤ)) → Same (lines m) rows (distance oldest) → Closed (lines m) (cell rows)
-  oldest_closed rows s = right_closed oldest (distance oldest) rows oldest_right paired ordered s
+  oldest_closed rows e = right_closed oldest (distance oldest) rows oldest_right s.0.paired s.0.ordered e
 
   pub oldest_more : (d : Bound) (before after : List (List ℤ)) → k < length m.bounds → Same (lines m) before (distance oldest) → Same (lines m) after (mend (cell before) (get_or m.bounds k d)) → Same (lines m) after (mended (base m.lows m.highs) (take (k + 1) m.bounds))
-  oldest_more d before after h s e i j n =
+  oldest_more d before after h was e i j n =
       let b = get_or m.bounds k d in
-      same_mend (lines m) before after (distance oldest) b (within b (has_get_or m.bounds k d h)).0 s e i j n
+      same_mend (lines m) before after (distance oldest) b (s.0.within b (has_get_or m.bounds k d h)).0 was e i j n
       ∙ ap (λ (t : Table). t i j) (sym (mended_push (base m.lows m.highs) (take k m.bounds) b))
       ∙ ap (λ bs. mended (base m.lows m.highs) bs i j) (sym (take_more m.bounds k d h))

@@ -1,10 +1,9 @@
 // The calls of the matrix axis.
-ghost use Rattle.std.specs.Prelude.{◌≡◌, true, false, pos, ◌+ℤ◌, ◌≤ℤ◌, ◌<ℤ◌, IfOk};
+ghost use Rattle.std.specs.Prelude.{◌≡◌, IsTrue, ◌↔◌, pos, ◌+ℤ◌, ◌<ℤ◌, IfOk};
 ghost use Rattle.axis.specs.Meaning.{new, lines};
 ghost use Rattle.axis.specs.Asks.{Named, Within, Tightest};
 ghost use Rattle.axis.specs.Distance.{distance};
 ghost use Rattle.ledger.specs.Lengths.{Near};
-ghost use Rattle.ledger.specs.Means.{means};
 ghost use Rattle.ledger.proofs.Open.{ledger_roomy, ledger_valid};
 
 use crate::MatrixAxis;
@@ -15,7 +14,7 @@ use std::alloc::{AllocError, Global};
 
 impl MatrixAxis {
     pub fn new(heap: Global) -> Result<MatrixAxis, AllocError>
-        ensures { IfOk result (λ a. means a.ledger ≡ new) }
+        ensures { IfOk result (λ a. a.ledger ≡ new) }
     {
         let ledger = Ledger::new(heap)?;
         let table = Table::new();
@@ -24,19 +23,18 @@ impl MatrixAxis {
 
     // The shortest length, which the table has.
     fn told(&self, p: u8, q: u8) -> i16
-        requires { Named (lines (means self.now.ledger)) p q }
-        ensures value { result ≡ distance (means self.now.ledger) p q }
+        requires { Named (lines self.now.ledger) p q }
+        ensures value { result ≡ distance self.now.ledger p q }
         ensures near { Near result }
-        ensures tightest { Tightest (means self.now.ledger) p q result }
+        ensures tightest { Tightest self.now.ledger p q result }
     {
-        self.table.at(p as usize, q as usize)
+        self.table.at(usize::from(p), usize::from(q))
     }
 
     // Is the way back too short for the bound?
     fn closes_ring(&self, bound: Bound) -> bool
-        requires { Within (lines (means self.now.ledger)) bound }
-        ensures yes { result ≡ true → (bound.d +ℤ distance (means self.now.ledger) bound.q bound.p) <ℤ pos 0 }
-        ensures no { result ≡ false → pos 0 ≤ℤ (bound.d +ℤ distance (means self.now.ledger) bound.q bound.p) }
+        requires { Within (lines self.now.ledger) bound }
+        ensures { IsTrue result ↔ (bound.d +ℤ distance self.now.ledger bound.q bound.p) <ℤ pos 0 }
     {
         self.told(bound.q, bound.p) + bound.d < 0
     }
@@ -47,11 +45,11 @@ impl Axis for MatrixAxis {
 
     ghost MOST = { 90 };
 
-    ghost means = { λ a. means a.ledger };
+    ghost means = { λ a. a.ledger };
 
     ghost roomy = { ledger_roomy };
 
-    ghost valid = { λ a. ledger_valid a.ledger a.open };
+    ghost valid = { λ a. ledger_valid a.ledger a.standing };
 
     fn reset(&mut self, lows: &[i16], highs: &[i16]) -> Result<(), AxisFault> {
         self.ledger.reset(lows, highs)?;

@@ -1,8 +1,7 @@
 // The matrix axis keeps all shortest lengths: it answers by one look, and mends them after each bound.
 #![tactic(auto)]
 
-ghost use Rattle.axis.specs.Distance.{Open};
-ghost use Rattle.ledger.specs.Means.{means};
+ghost use Rattle.ledger.specs.Means.{Standing};
 ghost use Rattle.matrix_axis.specs.Cells.{Kept};
 
 use ledger::Ledger;
@@ -18,6 +17,6 @@ mod table;
 pub struct MatrixAxis {
     ledger: Ledger,
     table: Table,
-    ghost open: { Open (means ledger) },
-    ghost kept: { Kept table.rows (means ledger) },
+    ghost standing: { Standing ledger },
+    ghost kept: { Kept table.rows ledger },
 }

@@ -16,8 +16,9 @@ impl Table {
         requires { Pending (cell self.old.rows) over.now (contents rows.old) columns.now }
         ensures { Mended over.now self.old.rows self.new.rows }
     {
-        while let Ok(i) = rows.pop() {
-            over.mend_row(i as usize, &mut self.rows[i as usize], columns);
+        while let Ok(line) = rows.pop() {
+            let i = usize::from(line);
+            over.mend_row(i, &mut self.rows[i], columns);
         }
     }
 
@@ -28,8 +29,8 @@ impl Table {
         requires closed { Closed last (cell self.old.rows) }
         ensures { Same last self.new.rows (mend (cell self.old.rows) bound) }
     {
-        let p = bound.p as usize;
-        let q = bound.q as usize;
+        let p = usize::from(bound.p);
+        let q = usize::from(bound.q);
         let over = Over {
             last,
             starts: self.column(p),

@@ -55,7 +55,7 @@ impl Over {
         ensures { RowMended self.now i columns.now row.old row.new }
     {
         for j in columns {
-            let j = *j as usize;
+            let j = usize::from(*j);
             row[j] = row[j].min(self.way(i, j));
         }
     }

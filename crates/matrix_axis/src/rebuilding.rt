@@ -1,8 +1,8 @@
 // The table worked out from nothing.
 ghost use Rattle.std.specs.Prelude.{◌≡◌, ℕ, ◌≤◌};
 ghost use Rattle.axis.specs.Meaning.{lines};
-ghost use Rattle.axis.specs.Distance.{base, Open};
-ghost use Rattle.ledger.specs.Means.{means};
+ghost use Rattle.axis.specs.Distance.{base};
+ghost use Rattle.ledger.specs.Means.{Standing};
 ghost use Rattle.matrix_axis.specs.Cells.{entry, Same, Kept};
 
 use crate::table::Table;
@@ -11,7 +11,7 @@ use ledger::Ledger;
 impl Table {
     // The lengths before any bound stands. What stands past the last line is never read.
     pub fn fill(&mut self, ledger: &Ledger)
-        ensures { Same (lines (means ledger.now)) self.new.rows (base (means ledger.now).lows (means ledger.now).highs) }
+        ensures { Same (lines ledger.now) self.new.rows (base ledger.now.lows ledger.now.highs) }
     {
         for (i, row) in self.rows[..=ledger.lines()].iter_mut().enumerate() {
             fill_row(row, ledger, i);
@@ -20,8 +20,8 @@ impl Table {
 
     // The lengths with every bound that stands.
     pub fn rebuild(&mut self, ledger: &Ledger)
-        requires { Open (means ledger.now) }
-        ensures { Kept self.new.rows (means ledger.now) }
+        requires { Standing ledger.now }
+        ensures { Kept self.new.rows ledger.now }
     {
         self.fill(ledger);
         let last = ledger.lines();
@@ -33,8 +33,8 @@ impl Table {
 
 // The lengths from line i.
 fn fill_row(row: &mut [i16; 13], ledger: &Ledger, i: usize)
-    requires { i ≤ lines (means ledger.now) }
-    ensures { (j : ℕ) → j ≤ lines (means ledger.now) → entry row.new j ≡ base (means ledger.now).lows (means ledger.now).highs i j }
+    requires { i ≤ lines ledger.now }
+    ensures { (j : ℕ) → j ≤ lines ledger.now → entry row.new j ≡ base ledger.now.lows ledger.now.highs i j }
 {
     for (j, length) in row[..=ledger.lines()].iter_mut().enumerate() {
         *length = ledger.direct(i, j);

@@ -1,5 +1,5 @@
-// The least place of one box, and how many there are.
-ghost use Rattle.std.specs.Prelude.{◌≡◌, ◌≤◌, pos};
+// The least place of one box.
+ghost use Rattle.std.specs.Prelude.{◌≤◌, pos};
 ghost use Rattle.axis.specs.Meaning.{lines};
 ghost use Rattle.axis.specs.Theory.{EarliestValue};
 
@@ -18,18 +18,9 @@ fn least<A: Axis>(axis: &A, line: u8) -> u16
 }
 
 // A box's step and metre, worked out together.
-pub fn place_of<T: Axis, P: Axis>(time: &T, platform: &P, line: u8) -> (u16, u16)
+pub(crate) fn place_of<T: Axis, P: Axis>(time: &T, platform: &P, line: u8) -> (u16, u16)
     requires { (line ≤ lines (T.Axis.means time.now)) × (line ≤ lines (P.Axis.means platform.now)) }
     ensures { EarliestValue (T.Axis.means time.now) line (pos result.0) × EarliestValue (P.Axis.means platform.now) line (pos result.1) }
 {
     (least(time, line), least(platform, line))
-}
-
-// The number of boxes that have a line each on the axis: its law says that there are at most twelve.
-pub fn line_count<A: Axis>(axis: &A, count: usize) -> u8
-    requires { lines (A.means axis.now) ≡ count }
-    ensures count { result ≡ count }
-    ensures few { result ≤ 12 }
-{
-    count as u8
 }

@@ -1,39 +1,87 @@
 -- From the board below back up to the board where the word was put.
-use Rattle.std.proofs.Common.{◌≡◌, ◌∙◌, ℕ, ◌+◌, ◌<◌, Bool, true, false, List, length, get_or, set, Some, sym, subst, arith, below_more}
-use Rattle.std.proofs.lemmas.List.{get_or_default}
+use Rattle.std.proofs.Common.{◌≡◌, ◌∙◌, ℕ, ◌+◌, ◌<◌, Bool, true, false, List, [], ◌∷◌, ◌++◌, length, get_or, Some, Ok, Err, Result, sym, refl, ap, subst, arith, below_more}
+use Rattle.std.proofs.lemmas.List.{get_or_default, length_push, same_from_push}
 use Rattle.stack.specs.declared.elements.Word.{Word}
 use Rattle.stack.specs.declared.elements.Word.TheVariants.{Before}
+use Rattle.stack.specs.declared.elements.Trial.{Trial}
+use Rattle.stack.specs.declared.fault.StackFault.{StackFault}
+use Rattle.stack.specs.Stacks.{contents}
+use Rattle.boxes.specs.declared.model.Entry.{Entry}
+use Rattle.boxes.specs.declared.model.Place.{Place}
+use Rattle.boxes.proofs.Lie.{ruled_side}
+use Rattle.moves.specs.Meanings.{Meanings}
+use Rattle.moves.specs.Moves.{BackOn}
+use Rattle.moves.proofs.Grown.{back_grown}
 use Rattle.trials.specs.declared.board.Board.{Board}
-use Rattle.trials.specs.Trials.{unworded, nth_word}
-use Rattle.trials.specs.Boards.{Open, RefutedAt, ImpliedAt, Ready, SameLoans, Below}
-use Rattle.packing.specs.Descent.{Reached, Unarranged, Explored, Restored}
+use Rattle.trials.specs.Trials.{nth_word, noted_side, worded, entry_of}
+use Rattle.trials.specs.Boards.{Open, RefutedAt, ImpliedAt, Ready, Becomes, Unchanged, Below, NewestGone, BackedUp, Reopened}
+use Rattle.packing.specs.Descent.{Reached, Unarranged, Reaches, Explored}
 use Rattle.packing.proofs.Above.{none_up, set_back, reached_up}
 
 module _ {T P : Type 0} where
-  -- b, with the word put b₁, and b₂ after the descent from there
-  module _ (ht hp : ℕ) (b : Board T P) (ready : Ready ht hp b) (k : ℕ) (open_at : Open b k) (w : Word) (b₁ b₂ : Board T P) (below : Below ht hp k w b b₁) (put : SameLoans b b₁) where
-    pub found_above : (b₃ : Board T P) → Reached b₁.axes.now b₁.sizes.now b₁.trials.now b₂.trials.now b₂.places.now → b₃.trials.now ≡ b₂.trials.now → b₃.places.now ≡ b₂.places.now
-        → Reached b.axes.now b.sizes.now b.trials.now b₃.trials.now b₃.places.now
-    found_above b₃ r et ep =
-        rw (et, ep) (reached_up b.axes.now b.sizes.now b.trials.now ready.node k open_at.0 w b₁.axes.now below.bound b₁.trials.now below.tried open_at.1 b₂.trials.now b₂.places.now
-        (subst (λ s. Reached b₁.axes.now s b₁.trials.now b₂.trials.now b₂.places.now) put.0 r))
+  -- one change after another
+  both : {b b₁ b₂ : Board T P} {m n : Meanings} {ts us : List Trial} {ps qs : List Place} {old new : List Trial} → Becomes b b₁ m ts ps old → Becomes b₁ b₂ n us qs new → Becomes b b₂ n us qs new
+  both first next = record {
+    axes = next.axes;
+    trials = next.trials;
+    places = next.places;
+    trail = next.trail;
+    sizes = next.sizes ∙ first.sizes;
+    space = next.space ∙ first.space;
+    loans = (next.loans.0 ∙ first.loans.0, next.loans.1 ∙ first.loans.1, next.loans.2 ∙ first.loans.2, next.loans.3 ∙ first.loans.3);
+  }
 
-    pub none_above : Unarranged b₁ → RefutedAt b k w
-    none_above none = none_up b.axes.now b.sizes.now b.trials.now ready.node k open_at.0 w b₁.axes.now below.bound b₁.trials.now below.tried (rw (sym put.0) none)
+  -- b, and b₁ with the word put
+  module _ (ht hp : ℕ) (b : Board T P) (ready : Ready ht hp b) (k : ℕ) (open_at : Open b k) (w : Word) (b₁ : Board T P) (below : Below ht hp k w b b₁) where
+    abbrev entry : Entry
+    entry = entry_of b.sizes.now b.trials.now k w
+
+    -- the newest record is that of the word, so its bound is the one that goes
+    gone : (b₂ b₃ : Board T P) (r : Result Unit StackFault) → b₂.axes.now ≡ b₁.axes.now → contents b₂.trail.now ≡ contents b₁.trail.now → NewestGone b₂ b₃ r
+        → (b₃.axes.now ≡ b.axes.now) × (contents b₃.trail.now ≡ contents b.trail.now)
+    gone b₂ b₃ (Ok u) axes trail (x, (items, (r, back))) =
+        let top = same_from_push (contents b₃.trail.now) (contents b.trail.now) x (worded b.trials.now k w) (sym items ∙ trail ∙ below.put.trail) in
+        let side : noted_side x.word ≡ entry.direction = ap (λ (t : Trial). noted_side t.word) top.1 ∙ ruled_side b.sizes.now _ _ w in
+        (back_grown b.axes.now entry.bound entry.direction b₂.axes.now b₃.axes.now r (axes ∙ below.put.axes) (subst (λ d. BackOn d b₂.axes.now r b₃.axes.now) side back), top.0)
+    gone b₂ b₃ (Err f) axes trail none =
+        let n = length_push (contents b.trail.now) (worded b.trials.now k w) in
+        let z : length (contents b.trail.now ++ worded b.trials.now k w ∷ []) ≡ 0 = ap length (sym (trail ∙ below.put.trail) ∙ none) in
+        absurd (omega arith)
+
+    -- b₂ has the axes and the trail of b₁, and b₃ is backed up
+    up : (b₂ b₃ : Board T P) (m : Meanings) (ts us : List Trial) (ps qs : List Place) (noted : List Trial) (r : Result Unit StackFault) → Becomes b₁ b₂ m ts ps noted → m ≡ b₁.axes.now → noted ≡ contents b₁.trail.now → BackedUp b₂ b₃ r
+        → b₃.trials.now ≡ us → b₃.places.now ≡ qs → Becomes b b₃ b.axes.now us qs (contents b.trail.now)
+    up b₂ b₃ m ts us ps qs noted r went axes trail back trials places =
+        let old = gone b₂ b₃ r (went.axes ∙ axes) (went.trail ∙ trail) back.newest in
+        let all = both (both below.put went) back.rest in
+        record { axes = old.0; trials = trials; places = places; trail = old.1; sizes = all.sizes; space = all.space; loans = all.loans }
+
+    pub found_above : (b₂ b₃ : Board T P) (r : Result Unit StackFault) → Reaches b₁ b₂ → BackedUp b₂ b₃ r → Reaches b b₃
+    found_above b₂ b₃ r below_found back = record {
+      found =
+          rw (back.rest.trials, back.rest.places) (reached_up b.axes.now b.sizes.now b.trials.now ready.node k open_at.0 w b₁.axes.now below.put.axes b₁.trials.now below.put.trials open_at.1 b₂.trials.now b₂.places.now
+          (subst (λ s. Reached b₁.axes.now s b₁.trials.now b₂.trials.now b₂.places.now) below.put.sizes below_found.found));
+      rest = up b₂ b₃ _ _ _ _ _ _ r below_found.rest refl refl back refl refl;
+    }
 
     -- b₃ with trial k reopened, and b₄ backed up
-    pub reopened : (b₃ b₄ : Board T P) → b₂.trials.now ≡ b₁.trials.now → b₃.trials.now ≡ set b₂.trials.now k (unworded b₂.trials.now k) → b₄.trials.now ≡ b₃.trials.now → b₄.trials.now ≡ b.trials.now
-    reopened b₃ b₄ same open_again up =
-        up ∙ open_again ∙ set_back b.axes.now b.sizes.now b.trials.now ready.node k open_at.0 w b₁.axes.now below.bound b₁.trials.now below.tried open_at.1 b₂.trials.now same
+    pub none_above : (b₂ b₃ b₄ : Board T P) (r : Result Unit StackFault) → Unarranged b₁ × Unchanged b₁ b₂ → Reopened k b₂ b₃ → BackedUp b₃ b₄ r → RefutedAt b k w × Unchanged b b₄
+    none_above b₂ b₃ b₄ r (none, same) again back =
+        let node = ready.node in (
+          none_up b.axes.now b.sizes.now b.trials.now node k open_at.0 w b₁.axes.now below.put.axes b₁.trials.now below.put.trials (rw (sym below.put.sizes) none),
+          up b₃ b₄ _ _ _ _ _ _ r (both same again) same.axes same.trail back
+              (back.rest.trials ∙ again.trials ∙ set_back b.axes.now b.sizes.now b.trials.now node k open_at.0 w b₁.axes.now below.put.axes b₁.trials.now below.put.trials open_at.1 b₂.trials.now same.trials)
+              (back.rest.places ∙ again.places ∙ same.places ∙ below.put.places),
+        )
 
   -- an implied word that no arrangement has leaves none
   pub implied_only : (b b' : Board T P) (k : ℕ) (w : Word) (r : Bool) → ImpliedAt b k (Some w) → Explored (RefutedAt b k w) b b' r → Explored (Unarranged b) b b' r
   implied_only b b' k w true implied e = e
-  implied_only b b' k w false implied e = ((λ x y a. e.0 x y a (implied x y a.timely a.placed)), e.1, e.2)
+  implied_only b b' k w false implied e = ((λ x y a. e.0 x y a (implied x y a.timely a.placed)), e.1)
 
   -- one word more is refuted
   pub refuted_more : (b b' : Board T P) (k n : ℕ) (ws : List Word) (d : Word) → length ws ≡ 4 → ((m : ℕ) → m < 4 → get_or ws m Before ≡ nth_word m) → n < 4
-      → b'.trials.now ≡ b.trials.now → Restored b b' → SameLoans b b' → RefutedAt b' k (get_or ws n d) → ((m : ℕ) → m < n → RefutedAt b k (nth_word m)) → (m : ℕ) → m < n + 1 → RefutedAt b k (nth_word m)
-  refuted_more b b' k n ws d count nth four trials same loans refuted below =
+      → Unchanged b b' → RefutedAt b' k (get_or ws n d) → ((m : ℕ) → m < n → RefutedAt b k (nth_word m)) → (m : ℕ) → m < n + 1 → RefutedAt b k (nth_word m)
+  refuted_more b b' k n ws d count nth four same refuted below =
       below_more (λ m. RefutedAt b k (nth_word m)) n below
-      (rw (← nth n four, get_or_default ws n Before d (omega arith), sym same.axes, sym loans.0, sym trials) refuted)
+      (rw (← nth n four, get_or_default ws n Before d (omega arith), sym same.axes, sym same.sizes, sym same.trials) refuted)

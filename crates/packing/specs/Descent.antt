@@ -10,6 +10,7 @@ use Rattle.boxes.specs.Order.{pair_of, no_trial}
 use Rattle.boxes.specs.Arranged.{step_of, metre_of, KeepsWords, NoArrangement}
 use Rattle.moves.specs.Meanings.{Meanings}
 use Rattle.trials.specs.declared.board.Board.{Board}
+use Rattle.trials.specs.Boards.{Becomes, Unchanged}
 
 -- places for all boxes, least under the words of all pairs, those that were there among them
 pub record Reached (axes : Meanings) (sizes : List Size) (before after : List Trial) (places : List Place) : Type 0 where
@@ -27,12 +28,12 @@ module _ {T P : Type 0} where
   abbrev pub Unarranged : Board T P → Type 0
   Unarranged b = NoArrangement b.axes.now.time b.axes.now.platform b.sizes.now
 
-  -- found, or nothing has changed and Q holds
-  abbrev pub Explored : Type 0 → Board T P → Board T P → Bool → Type 0
-  Explored Q b b' true = Reached b.axes.now b.sizes.now b.trials.now b'.trials.now b'.places.now
-  Explored Q b b' false = Q × (b'.trials.now ≡ b.trials.now) × (b'.places.now ≡ b.places.now)
+  -- found, and both axes and the trail are as they were
+  pub record Reaches (b b' : Board T P) : Type 0 where
+    pub found : Reached b.axes.now b.sizes.now b.trials.now b'.trials.now b'.places.now
+    pub rest : Becomes b b' b.axes.now b'.trials.now b'.places.now (contents b.trail.now)
 
-  -- both axes and the trail are as they were
-  pub record Restored (b b' : Board T P) : Type 0 where
-    pub axes : b'.axes.now ≡ b.axes.now
-    pub trail : contents b'.trail.now ≡ contents b.trail.now
+  -- so it is, or nothing has changed and Q holds
+  abbrev pub Explored : Type 0 → Board T P → Board T P → Bool → Type 0
+  Explored Q b b' true = Reaches b b'
+  Explored Q b b' false = Q × Unchanged b b'

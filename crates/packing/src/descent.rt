@@ -1,6 +1,6 @@
 // The descent: a word for one pair after the other, going down and backing up.
-ghost use Rattle.trials.specs.Boards.{Open, Ready, RefutedAt, SameLoans};
-ghost use Rattle.packing.specs.Descent.{Explored, Restored, Unarranged};
+ghost use Rattle.trials.specs.Boards.{Open, Ready, RefutedAt};
+ghost use Rattle.packing.specs.Descent.{Explored, Unarranged};
 
 use axis::Axis;
 use stack::Word;
@@ -9,11 +9,9 @@ use trials::{Board, words};
 // A place for every box and a word for every pair that has none yet, or nothing.
 // Kept as a premise of each call: on the way up from a plan the bounds go while the words stay, so it is no invariant of a board.
 #[cycle(attempt_descend_try_words)]
-pub fn descend<T: Axis, P: Axis>(board: &mut Board<'_, '_, T, P>) -> bool
+pub(crate) fn descend<T: Axis, P: Axis>(board: &mut Board<'_, '_, T, P>) -> bool
     requires ready { Ready T.Axis.MOST P.Axis.MOST board.old }
-    ensures found { Explored (Unarranged board.old) board.old board.new result }
-    ensures same { Restored board.old board.new }
-    ensures loans { SameLoans board.old board.new }
+    ensures { Explored (Unarranged board.old) board.old board.new result }
 {
     let Some(k) = board.pick() else {
         board.place_all();
@@ -30,9 +28,7 @@ pub fn descend<T: Axis, P: Axis>(board: &mut Board<'_, '_, T, P>) -> bool
 fn try_words<T: Axis, P: Axis>(board: &mut Board<'_, '_, T, P>, k: usize) -> bool
     requires ready { Ready T.Axis.MOST P.Axis.MOST board.old }
     requires open { Open board.old k }
-    ensures found { Explored (Unarranged board.old) board.old board.new result }
-    ensures same { Restored board.old board.new }
-    ensures loans { SameLoans board.old board.new }
+    ensures { Explored (Unarranged board.old) board.old board.new result }
 {
     for word in words() {
         if attempt(board, k, word) {
@@ -47,9 +43,7 @@ fn try_words<T: Axis, P: Axis>(board: &mut Board<'_, '_, T, P>, k: usize) -> boo
 fn attempt<T: Axis, P: Axis>(board: &mut Board<'_, '_, T, P>, k: usize, word: Word) -> bool
     requires ready { Ready T.Axis.MOST P.Axis.MOST board.old }
     requires open { Open board.old k }
-    ensures found { Explored (RefutedAt board.old k word) board.old board.new result }
-    ensures same { Restored board.old board.new }
-    ensures loans { SameLoans board.old board.new }
+    ensures { Explored (RefutedAt board.old k word) board.old board.new result }
 {
     if !board.enter(k, word) {
         return false;

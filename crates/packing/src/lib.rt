@@ -4,5 +4,4 @@
 mod descent;
 mod packs;
 
-pub use moves::{Axes, Standing};
 pub use packs::{NoArrangement, pack};

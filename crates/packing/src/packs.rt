@@ -8,9 +8,9 @@ ghost use Rattle.packing.specs.Packs.{Filled, Packed};
 
 use crate::descent::descend;
 use axis::Axis;
-use boxes::{Place, Size, clear, pair_count};
+use boxes::{MOST_PAIRS, Place, Size, clear, pair_count};
 use moves::Axes;
-use stack::{Blank, Stack, Trial};
+use stack::{Stack, Trial};
 use std::error::Error;
 use std::fmt;
 use trials::Board;
@@ -43,7 +43,7 @@ fn fill<T: Axis, P: Axis>(
     ensures answer { Filled axes.old sizes.now places.old places.new trials.new result }
     ensures same { axes.new ≡ axes.old }
 {
-    let mut slots = [<Trial as Blank>::blank(); 66];
+    let mut slots = [Trial::default(); MOST_PAIRS];
     let mut trail = Stack::new(&mut slots);
     let mut board = Board::new(axes, sizes, places, trials, &mut trail);
     let found = descend(&mut board);

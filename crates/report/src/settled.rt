@@ -3,9 +3,9 @@ ghost use Rattle.std.specs.Prelude.{◌≡◌};
 ghost use Rattle.report.specs.Reports.{Reported};
 
 use axis::Axis;
-use boxes::Place;
+use boxes::{MOST_BOXES, MOST_PAIRS, Place};
 use sheet::Sheet;
-use stack::{Blank, Trial};
+use stack::Trial;
 use text::{TextFault, print_no_plan, print_plan};
 
 // The text of a plan that is least under its words, or of none where none exists: with room for every plan a settle has no other refusal.
@@ -18,8 +18,8 @@ pub fn report<T: Axis, P: Axis>(
 {
     let count = sheet.stays().len();
     // Kept as arrays of the most that a plan fills: a settle takes lent buffers.
-    let mut places = [Place { step: 0, metre: 0 }; 12];
-    let mut trials = [<Trial as Blank>::blank(); 66];
+    let mut places = [Place::default(); MOST_BOXES];
+    let mut trials = [Trial::default(); MOST_PAIRS];
     match sheet.settle(&mut places, &mut trials) {
         Ok(()) => print_plan(&places[0..count], buffer),
         Err(_) => print_no_plan(buffer),

@@ -4,12 +4,12 @@ ghost use Rattle.runs.specs.Runs.{Answered};
 
 use crate::model::{Answer, Told};
 use axis::Axis;
-use boxes::{Place, pair_count};
+use boxes::{MOST_BOXES, MOST_PAIRS, Place, pair_count};
 use sheet::Sheet;
-use stack::{Blank, Trial};
+use stack::Trial;
 use std::alloc::{AllocError, Global};
 
-// No plan has more than 12 places and 66 words, so that longer buffers make no difference.
+// No plan has more than MOST_BOXES places and MOST_PAIRS words, so that longer buffers make no difference.
 pub fn settle_within<T: Axis, P: Axis>(
     heap: Global,
     sheet: &mut Sheet<T, P>,
@@ -21,10 +21,10 @@ pub fn settle_within<T: Axis, P: Axis>(
     let count = sheet.stays().len();
     let words = pair_count(count as u8);
     // Kept as arrays of the most that a plan fills: a settle takes lent buffers.
-    let mut place_slots = [Place { step: 0, metre: 0 }; 12];
-    let mut trial_slots = [<Trial as Blank>::blank(); 66];
-    let room = places.min(12);
-    let space = trials.min(66);
+    let mut place_slots = [Place::default(); MOST_BOXES];
+    let mut trial_slots = [Trial::default(); MOST_PAIRS];
+    let room = places.min(MOST_BOXES);
+    let space = trials.min(MOST_PAIRS);
     if let Err(fault) = sheet.settle(&mut place_slots[0..room], &mut trial_slots[0..space]) {
         return Ok(Err(fault));
     }

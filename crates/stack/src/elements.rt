@@ -14,7 +14,7 @@ pub enum Word {
 }
 
 // A pair of stays and the word that holds of them.
-#[derive(Clone, Copy, PartialEq, Eq, Debug)]
+#[derive(Clone, Copy, PartialEq, Eq, Debug, Default)]
 pub struct Trial {
     pub i: u8,
     pub j: u8,
@@ -34,10 +34,6 @@ impl Blank for Trial {
     ghost nothing = { record { i = 0; j = 0; word = None } };
 
     fn blank() -> Trial {
-        Trial {
-            i: 0,
-            j: 0,
-            word: None,
-        }
+        Trial::default()
     }
 }

@@ -15,6 +15,7 @@ pub use fault::StackFault;
 pub use letters::NoWord;
 
 // What stands in a slot that holds no element.
+// Kept beside Default: a blank slot for lines has a number that no line has, and 0 is a line.
 pub trait Blank {
     ghost nothing: { Self };
 

@@ -39,6 +39,6 @@ fn trials(rt: HostRuntime) -> Result<(), Fail> {
     };
     let mut slots = [nearer];
     assert_eq!(rt; once(&mut slots, nearer)?, nearer);
-    assert_eq!(rt; slots[0], <Trial as Blank>::blank());
+    assert_eq!(rt; slots[0], Trial::default());
     Ok(())
 }

@@ -6,7 +6,7 @@ use Rattle.stack.specs.Stacks.{contents, memory}
 use Rattle.moves.specs.Meanings.{grown}
 use Rattle.trials.specs.declared.board.Board.{Board}
 use Rattle.trials.specs.Trials.{open_count, worded, entry_of}
-use Rattle.trials.specs.Boards.{Open, Ready, SameLoans, Below}
+use Rattle.trials.specs.Boards.{Open, Ready, Becomes, Below}
 use Rattle.trials.proofs.Nodes.{open_some, node_below, room_below, open_falls}
 
 module _ {T P : Type 0} (ht hp : ℕ) (b : Board T P) (ready : Ready ht hp b) (k : ℕ) (open_at : Open b k) where
@@ -17,21 +17,18 @@ module _ {T P : Type 0} (ht hp : ℕ) (b : Board T P) (ready : Ready ht hp b) (k
       let r = ready.room in
       (omega (arith, r.in_time), omega (arith, r.on_platform), omega (arith, r.on_trail))
 
-  pub below : (w : Word) (b' : Board T P) → SameLoans b b' → b'.places.now ≡ b.places.now
-      → b'.axes.now ≡ grown b.axes.now (entry_of b.sizes.now b.trials.now k w) → b'.trials.now ≡ set b.trials.now k (worded b.trials.now k w) → contents b'.trail.now ≡ contents b.trail.now ++ worded b.trials.now k w ∷ []
+  pub below : (w : Word) (b' : Board T P)
+      → Becomes b b' (grown b.axes.now (entry_of b.sizes.now b.trials.now k w)) (set b.trials.now k (worded b.trials.now k w)) b.places.now (contents b.trail.now ++ worded b.trials.now k w ∷ [])
       → Below ht hp k w b b'
-  below w b' same places bound tried noted = record {
-    bound = bound;
-    tried = tried;
-    places = places;
-    noted = noted;
+  below w b' put = record {
+    put = put;
     ready = record {
-      node = rw (bound, tried, same.0) (node_below b.axes.now b.sizes.now b.trials.now ready.node k open_at.0 w);
+      node = rw (put.axes, put.trials, put.sizes) (node_below b.axes.now b.sizes.now b.trials.now ready.node k open_at.0 w);
       room =
-          let used : length (contents b'.trail.now) ≡ length (contents b.trail.now) + 1 = ap length noted ∙ length_push (contents b.trail.now) (worded b.trials.now k w) in
-          rw (bound, tried, used, same.1) (room_below b.axes.now b.sizes.now b.trials.now ready.node k open_at.0 w ht hp _ _ open_at.1 ready.room);
-      few = rw same.0 ready.few;
-      for_each = rw (places, same.0) ready.for_each;
+          let used : length (contents b'.trail.now) ≡ length (contents b.trail.now) + 1 = ap length put.trail ∙ length_push (contents b.trail.now) (worded b.trials.now k w) in
+          rw (put.axes, put.trials, used, put.space) (room_below b.axes.now b.sizes.now b.trials.now ready.node k open_at.0 w ht hp _ _ open_at.1 ready.room);
+      few = rw put.sizes ready.few;
+      for_each = rw (put.places, put.sizes) ready.for_each;
     };
-    falls = ap (λ xs. open_count xs + 1) tried ∙ open_falls b.axes.now b.sizes.now b.trials.now ready.node k open_at.0 w open_at.1;
+    falls = ap (λ xs. open_count xs + 1) put.trials ∙ open_falls b.axes.now b.sizes.now b.trials.now ready.node k open_at.0 w open_at.1;
   }

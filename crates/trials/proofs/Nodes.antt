@@ -4,7 +4,6 @@ use Rattle.std.specs.List.{ContainsAt}
 use Rattle.std.proofs.lemmas.List.{length-map, get_or-map, set-get_or, map-set}
 use Rattle.std.proofs.ByRecursion.{has_get_or, has_push, has_append_left, All-set, All-weaker}
 use Rattle.stack.specs.declared.elements.Word.{Word}
-use Rattle.stack.specs.declared.elements.Word.TheVariants.{Before, After, Nearer, Farther}
 use Rattle.stack.specs.declared.elements.Trial.{Trial}
 use Rattle.axis.specs.declared.model.Bound.{Bound}
 use Rattle.axis.specs.declared.model.AxisFault.{AxisFault}
@@ -23,7 +22,7 @@ use Rattle.moves.specs.declared.moves.Standing.TheVariants.{Implied, Possible, I
 use Rattle.moves.specs.declared.moves.Standing.{Standing}
 use Rattle.moves.specs.Moves.{PutOn, Told}
 use Rattle.moves.proofs.Grown.{put_refutes, put_grows, told_refutes, told_kept, grown_lines, grown_length}
-use Rattle.trials.specs.Trials.{open_one, open_count, StandsWord, Stands, Node, Room, Refuted, side, ToldWord, worded, entry_of}
+use Rattle.trials.specs.Trials.{open_one, open_count, StandsWord, Stands, Node, Room, Refuted, ToldWord, worded, entry_of}
 
 -- one trial has its word
 open_set : (ts : List Trial) (k : ℕ) (x : Trial) (w : Word) → k < length ts → (get_or ts k no_trial).word ≡ None → x.word ≡ Some w → open_count (set ts k x) + 1 ≡ open_count ts
@@ -35,12 +34,6 @@ pub open_some : (ts : List Trial) (k : ℕ) → k < length ts → (get_or ts k n
 open_some [] k h o = absurd (omega arith)
 open_some (t ∷ ts) zero h o = let b : open_one t.word ≡ 1 = ap open_one o in omega arith
 open_some (t ∷ ts) (suc k) h o = let a = open_some ts k (omega arith) o in omega arith
-
-side_is : (sizes : List Size) (i j : ℕ) (w : Word) → side (Some w) ≡ (ruled sizes i j w).direction
-side_is sizes i j Before = refl
-side_is sizes i j After = refl
-side_is sizes i j Nearer = refl
-side_is sizes i j Farther = refl
 
 module _ (m : Meanings) (sizes : List Size) (ts : List Trial) (node : Node m sizes ts) (k : ℕ) (h : k < length ts) where
   pub in_trial_order : (1 ≤ (get_or ts k no_trial).i) × ((get_or ts k no_trial).i < (get_or ts k no_trial).j) × ((get_or ts k no_trial).j ≤ length sizes)

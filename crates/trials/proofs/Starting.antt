@@ -4,6 +4,7 @@ use Rattle.std.specs.List.{AllByRecursion}
 use Rattle.stack.specs.declared.elements.Trial.{Trial}
 use Rattle.axis.specs.Meaning.{lines}
 use Rattle.boxes.specs.declared.model.Size.{Size}
+use Rattle.boxes.specs.declared.order.TheConstants.{MOST_PAIRS}
 use Rattle.boxes.specs.Overlaps.{Sized}
 use Rattle.boxes.specs.Order.{Pair, pairs, trial_order, pair_of, untried}
 use Rattle.boxes.proofs.Ordered.{length_order, pairs_few}
@@ -34,7 +35,7 @@ module _ (m : Meanings) (sizes : List Size) (ts : List Trial) (laid : ts ≡ map
     standing = subst (AllByRecursion (Stands m sizes)) (sym laid) (stands_laid m sizes (trial_order (length sizes)));
   }
 
-  pub room_start : (ht hp used space : ℕ) → length sizes ≤ 12 → 90 ≤ ht → 90 ≤ hp → length m.time.bounds ≤ 24 → length m.platform.bounds ≤ 24 → used ≡ 0 → space ≡ 66 → Room ht hp m used space ts
+  pub room_start : (ht hp used space : ℕ) → length sizes ≤ 12 → 90 ≤ ht → 90 ≤ hp → length m.time.bounds ≤ 24 → length m.platform.bounds ≤ 24 → used ≡ 0 → space ≡ MOST_PAIRS → Room ht hp m used space ts
   room_start ht hp used space few rt rp ft fp none full =
       let n : open_count ts ≡ pairs (length sizes) = ap open_count laid ∙ open_laid (trial_order (length sizes)) ∙ length_order (length sizes) in
       let p = pairs_few (length sizes) few in

@@ -10,12 +10,13 @@ use Rattle.axis.specs.declared.model.AxisFault.{AxisFault}
 use Rattle.axis.specs.Meaning.{lines, Earliest}
 use Rattle.boxes.specs.declared.model.Size.{Size}
 use Rattle.boxes.specs.declared.model.Place.{Place}
+use Rattle.boxes.specs.declared.order.TheConstants.{MOST_PAIRS}
 use Rattle.boxes.specs.Overlaps.{Sized}
 use Rattle.boxes.specs.Order.{pairs, no_trial}
 use Rattle.boxes.specs.Arranged.{step_of, metre_of}
 use Rattle.moves.specs.Meanings.{Meanings, grown}
 use Rattle.moves.specs.Moves.{BackOn}
-use Rattle.trials.specs.Trials.{open_count, Node, Room, Refuted, ImpliedWord, side, worded, unworded, entry_of}
+use Rattle.trials.specs.Trials.{open_count, Node, Room, Refuted, ImpliedWord, noted_side, worded, unworded, entry_of}
 use Rattle.trials.specs.declared.board.Board.{Board}
 
 -- boxes on axes that have a line for each and at most 24 bounds; a place for each box, and a record for each pair
@@ -29,7 +30,7 @@ pub record Fits (axes : Meanings) (sizes : List Size) (places : List Place) (tri
 
 -- no words on it yet, and space for twelve boxes
 abbrev pub NoWords : Stack Trial → Type 0
-NoWords trail = (contents trail ≡ []) × (length (memory trail) ≡ 66)
+NoWords trail = (contents trail ≡ []) × (length (memory trail) ≡ MOST_PAIRS)
 
 module _ {T P : Type 0} where
   -- the board is on these loans
@@ -55,25 +56,23 @@ module _ {T P : Type 0} where
     pub few : length b.sizes.now ≤ 12
     pub for_each : length b.places.now ≡ length b.sizes.now
 
-  -- the same boxes with as much space for the trail, on the same loans
-  abbrev pub SameLoans : Board T P → Board T P → Type 0
-  SameLoans b b' =
-      (b'.sizes.now ≡ b.sizes.now) × (length (memory b'.trail.now) ≡ length (memory b.trail.now))
-      × (b'.axes.ghost_name ≡ b.axes.ghost_name) × (b'.places.ghost_name ≡ b.places.ghost_name) × (b'.trials.ghost_name ≡ b.trials.ghost_name) × (b'.trail.ghost_name ≡ b.trail.ghost_name)
+  -- b' has the boxes, the loans and the space for the trail that b has, and its axes, trials, places and trail stand so
+  pub record Becomes (b b' : Board T P) (m : Meanings) (ts : List Trial) (ps : List Place) (noted : List Trial) : Type 0 where
+    pub axes : b'.axes.now ≡ m
+    pub trials : b'.trials.now ≡ ts
+    pub places : b'.places.now ≡ ps
+    pub trail : contents b'.trail.now ≡ noted
+    pub sizes : b'.sizes.now ≡ b.sizes.now
+    pub space : length (memory b'.trail.now) ≡ length (memory b.trail.now)
+    pub loans : OnLoan b.axes b.places b.trials b.trail b'
 
-  -- axes, trials, places and trail are as they were
-  pub record Unchanged (b b' : Board T P) : Type 0 where
-    pub axes : b'.axes.now ≡ b.axes.now
-    pub trials : b'.trials.now ≡ b.trials.now
-    pub places : b'.places.now ≡ b.places.now
-    pub trail : contents b'.trail.now ≡ contents b.trail.now
+  -- nothing has changed
+  abbrev pub Unchanged : Board T P → Board T P → Type 0
+  Unchanged b b' = Becomes b b' b.axes.now b.trials.now b.places.now (contents b.trail.now)
 
   -- the bound of the word stands, its trial is on the trail, and the descent can go on from there
   pub record Below (most-time most-platform k : ℕ) (w : Word) (b b' : Board T P) : Type 0 where
-    pub bound : b'.axes.now ≡ grown b.axes.now (entry_of b.sizes.now b.trials.now k w)
-    pub tried : b'.trials.now ≡ slice_set b.trials.now k (worded b.trials.now k w)
-    pub places : b'.places.now ≡ b.places.now
-    pub noted : contents b'.trail.now ≡ contents b.trail.now ++ worded b.trials.now k w ∷ []
+    pub put : Becomes b b' (grown b.axes.now (entry_of b.sizes.now b.trials.now k w)) (slice_set b.trials.now k (worded b.trials.now k w)) b.places.now (contents b.trail.now ++ worded b.trials.now k w ∷ [])
     pub ready : Ready most-time most-platform b'
     pub falls : open_count b'.trials.now + 1 ≡ open_count b.trials.now
 
@@ -84,27 +83,21 @@ module _ {T P : Type 0} where
 
   -- a bound has gone from the axis of the newest record, or there was none
   abbrev pub NewestGone : Board T P → Board T P → Result (Unit {0}) StackFault → Type 0
-  NewestGone b b' (Ok _) = (x : Trial) × ((contents b.trail.now ≡ contents b'.trail.now ++ x ∷ []) × ((r : Result Unit AxisFault) × BackOn (side x.word) b.axes.now r b'.axes.now))
+  NewestGone b b' (Ok _) = (x : Trial) × ((contents b.trail.now ≡ contents b'.trail.now ++ x ∷ []) × ((r : Result Unit AxisFault) × BackOn (noted_side x.word) b.axes.now r b'.axes.now))
   NewestGone b b' (Err _) = contents b.trail.now ≡ []
 
   -- so it is, and nothing else has changed
   pub record BackedUp (b b' : Board T P) (result : Result (Unit {0}) StackFault) : Type 0 where
     pub newest : NewestGone b b' result
-    pub trials : b'.trials.now ≡ b.trials.now
-    pub places : b'.places.now ≡ b.places.now
+    pub rest : Becomes b b' b'.axes.now b.trials.now b.places.now (contents b'.trail.now)
 
   -- trial k has no word again, and nothing else has changed
-  pub record Reopened (k : ℕ) (b b' : Board T P) : Type 0 where
-    pub trials : b'.trials.now ≡ slice_set b.trials.now k (unworded b.trials.now k)
-    pub axes : b'.axes.now ≡ b.axes.now
-    pub places : b'.places.now ≡ b.places.now
-    pub trail : contents b'.trail.now ≡ contents b.trail.now
+  abbrev pub Reopened : ℕ → Board T P → Board T P → Type 0
+  Reopened k b b' = Becomes b b' b.axes.now (slice_set b.trials.now k (unworded b.trials.now k)) b.places.now (contents b.trail.now)
 
   -- each box stands at its earliest step and its nearest metre, and nothing else has changed
   pub record Placed (b b' : Board T P) : Type 0 where
     pub timely : Earliest b.axes.now.time (step_of b'.places.now)
     pub nearest : Earliest b.axes.now.platform (metre_of b'.places.now)
     pub for_each : length b'.places.now ≡ length b.sizes.now
-    pub axes : b'.axes.now ≡ b.axes.now
-    pub trials : b'.trials.now ≡ b.trials.now
-    pub trail : contents b'.trail.now ≡ contents b.trail.now
+    pub rest : Becomes b b' b.axes.now b.trials.now b'.places.now (contents b.trail.now)

@@ -8,11 +8,11 @@ use Rattle.axis.specs.Meaning.{lines, Placement}
 use Rattle.boxes.specs.declared.model.Size.{Size}
 use Rattle.boxes.specs.declared.model.Entry.{Entry}
 use Rattle.boxes.specs.declared.model.Direction.{Direction}
-use Rattle.boxes.specs.declared.model.Direction.TheVariants.{Time, Platform}
+use Rattle.boxes.specs.declared.model.Direction.TheVariants.{Time}
 use Rattle.moves.specs.Meanings.{Meanings, along}
 use Rattle.moves.specs.declared.moves.Standing.{Standing}
 use Rattle.moves.specs.declared.moves.Standing.TheVariants.{Implied, Possible, Impossible}
-use Rattle.boxes.specs.Overlaps.{Sized, ruled, HoldsWord}
+use Rattle.boxes.specs.Overlaps.{Sized, ruled, side, HoldsWord}
 use Rattle.boxes.specs.Order.{trial_order, pair_of, no_trial}
 use Rattle.boxes.specs.Arranged.{Arrangement}
 
@@ -68,13 +68,10 @@ abbrev pub PickedBelow : ℕ → List Trial → Option ℕ → Type 0
 PickedBelow n ts None = (k : ℕ) → k < n → is_some (slice_index_or ts k no_trial).word ≡ true
 PickedBelow n ts (Some k) = (k < n) × ((slice_index_or ts k no_trial).word ≡ None)
 
--- which axis a word speaks of
-abbrev pub side : Option Word → Direction
-side None = Time
-side (Some Before) = Time
-side (Some After) = Time
-side (Some Nearer) = Platform
-side (Some Farther) = Platform
+-- which axis a trial's word speaks of, and time where it has none
+abbrev pub noted_side : Option Word → Direction
+noted_side None = Time
+noted_side (Some w) = side w
 
 -- trial k with the word
 abbrev pub worded : List Trial → ℕ → Word → Trial

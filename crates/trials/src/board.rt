@@ -2,8 +2,8 @@
 ghost use Rattle.std.specs.Prelude.{◌≡◌, ℕ, ◌<◌, true, length, Some, slice_index_or};
 ghost use Rattle.stack.specs.declared.elements.Word.TheVariants.{Before};
 ghost use Rattle.boxes.specs.Order.{no_trial};
-ghost use Rattle.trials.specs.Trials.{Node, PickedBelow, ToldWord, entry_of, nth_word, side};
-ghost use Rattle.trials.specs.Boards.{BackedUp, NoWords, Entered, Fits, ImpliedAt, OnLoan, Open, Placed, Ready, Reopened, SameLoans};
+ghost use Rattle.trials.specs.Trials.{Node, PickedBelow, ToldWord, entry_of, nth_word};
+ghost use Rattle.trials.specs.Boards.{BackedUp, NoWords, Entered, Fits, ImpliedAt, OnLoan, Open, Placed, Ready, Reopened};
 
 use crate::picker::rank_of;
 use axis::Axis;
@@ -30,17 +30,11 @@ pub struct Board<'a, 't, T: Axis, P: Axis> {
     tries: u64,
 }
 
-fn side_of(word: Option<Word>) -> Direction
-    ensures { result ≡ side word }
-{
-    match word {
-        Some(Word::Nearer) | Some(Word::Farther) => Direction::Platform,
-        _ => Direction::Time,
-    }
-}
-
 impl<'a, 't, T: Axis, P: Axis> Board<'a, 't, T, P> {
-    pub fn tries(&self) -> u64 {
+    // How many words were put.
+    pub fn tries(&self) -> u64
+        ensures { result ≡ self.now.tries }
+    {
         self.tries
     }
 
@@ -85,11 +79,11 @@ impl<'a, 't, T: Axis, P: Axis> Board<'a, 't, T, P> {
 
     // Takes back the newest trial and its bound.
     pub fn back_up(&mut self) -> Result<(), StackFault>
-        ensures after { BackedUp self.old self.new result }
-        ensures loans { SameLoans self.old self.new }
+        ensures { BackedUp self.old self.new result }
     {
         let trial = self.trail.pop()?;
-        let _ = self.axes.back(side_of(trial.word));
+        let side = trial.word.map_or(Direction::Time, Direction::from);
+        let _ = self.axes.back(side);
         Ok(())
     }
 
@@ -109,8 +103,7 @@ impl<'a, 't, T: Axis, P: Axis> Board<'a, 't, T, P> {
     pub fn enter(&mut self, k: usize, word: Word) -> bool
         requires ready { Ready T.Axis.MOST P.Axis.MOST self.old }
         requires open { Open self.old k }
-        ensures after { Entered T.Axis.MOST P.Axis.MOST k word self.old self.new result }
-        ensures loans { SameLoans self.old self.new }
+        ensures { Entered T.Axis.MOST P.Axis.MOST k word self.old self.new result }
     {
         let (entry, standing) = self.weigh(k, word);
         if standing == Standing::Impossible {
@@ -147,8 +140,7 @@ impl<'a, 't, T: Axis, P: Axis> Board<'a, 't, T, P> {
     // Trial k has no word again.
     pub fn reopen(&mut self, k: usize)
         requires { k < length self.old.trials.now }
-        ensures after { Reopened k self.old self.new }
-        ensures loans { SameLoans self.old self.new }
+        ensures { Reopened k self.old self.new }
     {
         self.trials[k].word = None;
     }
@@ -156,8 +148,7 @@ impl<'a, 't, T: Axis, P: Axis> Board<'a, 't, T, P> {
     // Each box at its least place under the words so far.
     pub fn place_all(&mut self)
         requires ready { Ready T.Axis.MOST P.Axis.MOST self.old }
-        ensures after { Placed self.old self.new }
-        ensures loans { SameLoans self.old self.new }
+        ensures { Placed self.old self.new }
     {
         self.axes.place_all(self.places);
     }

@@ -7,7 +7,7 @@ use std::cmp::Reverse;
 
 // First a pair with no possible word, then one with an implied word, then those with the fewest possible words.
 #[derive(Clone, Copy, PartialEq, Eq, PartialOrd, Ord)]
-pub enum Class {
+enum Class {
     Hopeless,
     Implied,
     Possible(usize),
@@ -15,7 +15,7 @@ pub enum Class {
 
 // Among equals first the pair whose smaller box has the larger area, then whose larger box has.
 #[derive(Clone, Copy, PartialEq, Eq, PartialOrd, Ord)]
-pub struct Rank {
+pub(crate) struct Rank {
     class: Class,
     smaller: Reverse<u32>,
     larger: Reverse<u32>,
@@ -64,7 +64,7 @@ fn area(size: Size) -> u32 {
     u32::from(size.steps).saturating_mul(u32::from(size.metres))
 }
 
-pub fn rank_of<T: Axis, P: Axis>(axes: &Axes<T, P>, sizes: &[Size], trial: Trial) -> Rank {
+pub(crate) fn rank_of<T: Axis, P: Axis>(axes: &Axes<T, P>, sizes: &[Size], trial: Trial) -> Rank {
     let first = size_of(sizes, trial.i);
     let second = size_of(sizes, trial.j);
     // of a word and its mirrored one

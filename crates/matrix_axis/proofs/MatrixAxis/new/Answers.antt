@@ -5,5 +5,5 @@ use Rattle.matrix_axis.proofs.MatrixAxis.new.Goals as goal
 
 pub invariant_of-result : goal.invariant_of-result
 invariant_of-result c =
-    let e = c.in_ok-ledger.ensures in
-    record { «open» = subst Open (sym e) refl; kept = kept_new _ _ e c.new-table.ensures }
+    let ledger = c.in_ok-ledger.ensures in
+    record { standing = (ledger.sound, subst Open (sym ledger.value) refl); kept = kept_new _ _ ledger.value c.new-table.ensures }

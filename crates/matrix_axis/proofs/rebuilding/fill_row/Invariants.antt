@@ -1,8 +1,7 @@
 use Rattle.std.proofs.Common.{◌≡◌, ℕ, ◌<◌}
 use Rattle.axis.specs.Distance.{base}
-use Rattle.ledger.specs.Means.{means}
 use Rattle.matrix_axis.specs.Cells.{entry}
 use Rattle.matrix_axis.proofs.rebuilding.fill_row.Given as goal
 
 abbrev pub invariant-loop-j : goal.invariant-loop-j
-invariant-loop-j l = (k : ℕ) → k < l.j → entry l.length-items k ≡ base (means l.ledger).lows (means l.ledger).highs l.i k
+invariant-loop-j l = (k : ℕ) → k < l.j → entry l.length-items k ≡ base l.ledger.lows l.ledger.highs l.i k

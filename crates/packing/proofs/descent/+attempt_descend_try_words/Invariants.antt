@@ -1,7 +1,6 @@
-use Rattle.std.proofs.Common.{◌≡◌, ℕ, ◌+◌, ◌*◌, ◌<◌}
+use Rattle.std.proofs.Common.{ℕ, ◌+◌, ◌*◌, ◌<◌}
 use Rattle.trials.specs.Trials.{open_count, nth_word}
-use Rattle.trials.specs.Boards.{RefutedAt, SameLoans}
-use Rattle.packing.specs.Descent.{Restored}
+use Rattle.trials.specs.Boards.{RefutedAt, Unchanged}
 use Rattle.packing.proofs.descent.+attempt_descend_try_words.Given as goal
 
 abbrev pub decreases-attempt : goal.decreases-attempt
@@ -15,5 +14,4 @@ decreases-descend g l = 3 * open_count l.board.now.trials.now + 2
 
 abbrev pub invariant-try_words-loop-word : goal.invariant-try_words-loop-word
 invariant-try_words-loop-word g l =
-    (l.board.trials.now ≡ l.initial.board.trials.now) × (l.board.places.now ≡ l.initial.board.places.now) × Restored l.initial.board l.board × SameLoans l.initial.board l.board
-    × ((m : ℕ) → m < l.word-index → RefutedAt l.initial.board l.k (nth_word m))
+    Unchanged l.initial.board l.board × ((m : ℕ) → m < l.word-index → RefutedAt l.initial.board l.k (nth_word m))

@@ -1,4 +1,4 @@
-use Rattle.std.proofs.Common.{sym, refl, subst}
+use Rattle.std.proofs.Common.{sym, refl, subst, rules}
 use Rattle.axis.specs.Asks.{Within}
 use Rattle.axis.specs.Distance.{mend}
 use Rattle.ledger.proofs.Open.{put_refused, put_stands, open_put}
@@ -10,7 +10,7 @@ use Rattle.matrix_axis.proofs.calls.MatrixAxisAxis.put.Goals as goal
 pub returns-then-closes_ring : goal.returns-then-closes_ring
 returns-then-closes_ring c =
     let a = c.args.self.now in
-    (put_refused a.ledger a.«open» c.args.bound c.in_ok-admits.ensures (c.closes_ring.ensures.yes c.if-closes_ring.true), refl)
+    (put_refused a.ledger a.standing c.args.bound c.in_ok-admits.ensures (search rules), refl)
 
 pub mend-requires-clause-within : goal.mend-requires-clause-within
 mend-requires-clause-within c =
@@ -24,12 +24,13 @@ pub invariant_of-self-2 : goal.invariant_of-self-2
 invariant_of-self-2 c =
     let a = c.args.self.now in
     let first = c.in_ok-admits.ensures in
+    let after = c.push.ensures in
     record {
-      «open» = open_put a.ledger a.«open» c.args.bound first (c.closes_ring.ensures.no c.if-closes_ring.false) _ c.push.ensures;
-      kept = kept_put _ _ c.args.bound _ _ c.push.ensures first.0 a.kept (subst (λ n. Same n c.mend.new.self.rows (mend (cell a.table.rows) c.args.bound)) c.lines.ensures.value c.mend.ensures);
+      standing = (after.sound a.standing.0, open_put a.ledger a.standing c.args.bound first (search rules) _ after.after);
+      kept = kept_put _ _ c.args.bound _ _ after.after first.0 a.kept (subst (λ n. Same n c.mend.new.self.rows (mend (cell a.table.rows) c.args.bound)) c.lines.ensures.value c.mend.ensures);
     }
 
 pub returns : goal.returns
 returns c =
     let a = c.args.self.now in
-    (put_stands a.ledger a.«open» c.args.bound c.in_ok-admits.ensures (c.closes_ring.ensures.no c.if-closes_ring.false), c.push.ensures)
+    (put_stands a.ledger a.standing c.args.bound c.in_ok-admits.ensures (search rules), c.push.ensures.after)

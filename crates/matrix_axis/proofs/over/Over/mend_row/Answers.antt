@@ -15,5 +15,5 @@ loop-j-preserved c =
     let min : SFits w16 c.min.result = search rules in
     record {
       size = search rules;
-      mended = rw (take_more columns k 0 c.loop-j-test.true) (row_more _ _ _ _ _ _ _ c.way.result (omega arith) before.mended c.way.ensures (grind (arith, to_z-of_z)));
+      mended = rw (take_more columns k 0 c.loop-j-test.true) (row_more _ _ _ _ _ _ _ c.way.result (omega arith) before.mended (search rules) (grind (arith, to_z-of_z)));
     }
