@@ -1,5 +1,6 @@
 // What an image tells of a sheet.
 ghost use Rattle.std.specs.Prelude.{◌≡◌, ◌≤◌, length};
+ghost use Rattle.journal.specs.Made.{Made};
 ghost use Rattle.page.specs.Pages.{put};
 
 use crate::fields::{Field, put_list};
@@ -24,7 +25,8 @@ impl<'a> Body<'a> {
     ghost use Rattle.image.specs.Bodies.{told};
 
     pub fn of<T: Axis, P: Axis>(sheet: &'a Sheet<T, P>) -> Body<'a>
-        ensures { told result ≡ sheet.now }
+        ensures told { told result ≡ sheet.now }
+        ensures made { Made sheet.now }
     {
         Body {
             extents: sheet.extents(),

@@ -3,6 +3,7 @@ ghost use Rattle.std.specs.Prelude.{◌≡◌, length};
 ghost use Rattle.image.specs.Bodies.{told};
 ghost use Rattle.image.specs.Bytes.{body_bytes, image_bytes};
 ghost use Rattle.image.specs.Writes.{Written};
+ghost use Rattle.journal.specs.Made.{Made};
 ghost use Rattle.page.specs.Pages.{put};
 
 use crate::body::Body;
@@ -12,9 +13,10 @@ use faults::{Cause, ImageFault};
 use page::Page;
 use sheet::Sheet;
 
-// The image fills the front of the buffer, and the answer is its length.
+// The image fills the front of the buffer, and the answer is its length. It is that of a sheet that a load and binds make.
 pub fn write<T: Axis, P: Axis>(sheet: &Sheet<T, P>, buffer: &mut [u8]) -> Result<usize, ImageFault>
-    ensures { Written (image_bytes sheet.now) buffer.old buffer.new result }
+    ensures written { Written (image_bytes sheet.now) buffer.old buffer.new result }
+    ensures made { Made sheet.now }
 {
     let body = Body::of(sheet);
     let len = body.len();

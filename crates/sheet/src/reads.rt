@@ -1,5 +1,6 @@
 // What a sheet tells without changing.
 ghost use Rattle.std.specs.Prelude.{◌≡◌, ◌≤◌, length};
+ghost use Rattle.journal.specs.Made.{Made};
 ghost use Rattle.journal.specs.Steps.{ask, measured, Step};
 
 use crate::Sheet;
@@ -43,10 +44,11 @@ impl<T: Axis, P: Axis> Sheet<T, P> {
         self.stays.items()
     }
 
-    // The entries, oldest first.
+    // The entries, oldest first. All that a sheet holds was asked of it: it is one that a load and binds make.
     pub fn entries(&self) -> &[Entry]
         ensures value { result.now ≡ self.now.entries }
         ensures few { length result.now ≤ 48 }
+        ensures made { Made self.now }
     {
         self.entries.items()
     }
