@@ -1,5 +1,6 @@
 pub mod Accepted
 pub mod Bound
+pub mod Copied
 pub mod Entries
 pub mod Holds
 pub mod Starts

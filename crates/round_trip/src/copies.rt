@@ -1,5 +1,6 @@
 // A sheet's image, read into another sheet.
-ghost use Rattle.std.specs.Prelude.{◌≡◌, OnOk, OnErr};
+ghost use Rattle.std.specs.Prelude.{◌≡◌, Ok, OnOk, OnErr};
+ghost use Rattle.journal.specs.Made.{Made};
 ghost use Rattle.image.specs.Bytes.{image_bytes};
 ghost use Rattle.image.specs.Writes.{Written};
 
@@ -8,6 +9,20 @@ use faults::ImageFault;
 use image::write;
 use reader::read;
 use sheet::Sheet;
+
+// The sheet's image is never refused.
+fn read_image<T: Axis, P: Axis, U: Axis, Q: Axis>(
+    from: &Sheet<T, P>,
+    image: &[u8],
+    to: &mut Sheet<U, Q>,
+) -> Result<(), ImageFault>
+    requires made { Made from.now }
+    requires image { image.now ≡ image_bytes from.now }
+    ensures done { result ≡ Ok tt }
+    ensures copied { to.new ≡ from.now }
+{
+    read(image, to)
+}
 
 // What one sheet holds, put into another, which may stand on other axes. The image fills the front of the buffer.
 pub fn copy<T: Axis, P: Axis, U: Axis, Q: Axis>(
@@ -20,6 +35,6 @@ pub fn copy<T: Axis, P: Axis, U: Axis, Q: Axis>(
     ensures kept { OnErr result (to.new ≡ to.old) }
 {
     let length = write(from, buffer)?;
-    read(&buffer[0..length], to)?;
+    read_image(from, &buffer[0..length], to)?;
     Ok(length)
 }
