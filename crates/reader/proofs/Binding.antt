@@ -1,5 +1,5 @@
 -- Entries of an image, of which some were bound.
-use Rattle.std.proofs.Common.{◌≡◌, ℕ, zero, suc, ◌+◌, ◌*◌, ◌-◌, ◌<◌, ◌≤◌, List, ◌++◌, refl, sym, ap, ◌∙◌, subst, arith}
+use Rattle.std.proofs.Common.{◌≡◌, ℕ, suc, ◌+◌, ◌*◌, ◌-◌, ◌<◌, ◌≤◌, List, ◌++◌, sym, ap, ◌∙◌, subst, arith}
 use Rattle.axis.specs.Questions.{AllYes, FirstNo}
 use Rattle.faults.specs.declared.model.ImageFault.{ImageFault}
 use Rattle.journal.specs.Journal.{Journal}

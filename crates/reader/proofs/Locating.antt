@@ -1,5 +1,5 @@
 -- A sheet's questions with their bytes have the same answers.
-use Rattle.std.proofs.Common.{ℕ, List, [], ◌∷◌, inl, inr, refl, ap, arith}
+use Rattle.std.proofs.Common.{ℕ, [], ◌∷◌, inl, inr, ap}
 use Rattle.axis.specs.Questions.{AllYes, FirstNo}
 use Rattle.faults.specs.declared.model.SheetFault.{SheetFault}
 use Rattle.journal.specs.Asks.{Asked as SheetAsked}

@@ -1,5 +1,5 @@
 -- From the questions of the fields, the load and the entries to those of the whole image.
-use Rattle.std.proofs.Common.{◌≡◌, ℕ, ◌+◌, List, Ok, Err, Result, inl, inr, refl, ap, ◌∙◌, subst}
+use Rattle.std.proofs.Common.{ℕ, ◌+◌, List, Ok, Err, Result, inl, inr, refl, subst}
 use Rattle.axis.specs.Questions.{AllYes, FirstNo}
 use Rattle.axis.proofs.Asked.{first_no_append, first_no_after, all_yes_append}
 use Rattle.faults.specs.declared.model.ImageFault.{ImageFault}

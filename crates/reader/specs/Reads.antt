@@ -3,7 +3,7 @@ use Rattle.std.specs.Prelude.{◌≡◌, ℕ, zero, suc, ◌+◌, ◌⊎◌, Lis
 use Rattle.axis.specs.Questions.{AllYes, FirstNo}
 use Rattle.faults.specs.declared.model.ImageFault.{ImageFault}
 use Rattle.journal.specs.Journal.{Journal, new}
-use Rattle.journal.specs.Steps.{Request, asks, next}
+use Rattle.journal.specs.Steps.{asks, next}
 use Rattle.walk.specs.Fields.{Asked, byte_at, after_entry, image_asks, stays_end}
 use Rattle.reader.specs.Entries.{bind_at, load_in, loaded_in, journal_in}
 use Rattle.reader.specs.Located.{located, load_offset}

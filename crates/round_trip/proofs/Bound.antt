@@ -1,6 +1,6 @@
 -- What is written of entries is read as those entries.
-use Rattle.std.proofs.Common.{◌≡◌, ℕ, zero, suc, ◌+◌, ◌*◌, ◌-◌, ◌<◌, ◌≤◌, Bool, true, false, cond, ltb, List, [], ◌∷◌, ◌++◌, length, flat_map, drop, ℤ, pos, negsuc, ◌-ℤ◌, Some, inl, inr, refl, sym, ap, ◌∙◌, subst, arith}
-use Rattle.std.proofs.lemmas.List.{append_assoc, append-nil, length-append}
+use Rattle.std.proofs.Common.{◌≡◌, ℕ, ◌+◌, ◌-◌, ◌<◌, ◌≤◌, cond, List, [], ◌∷◌, ◌++◌, length, flat_map, ℤ, pos, negsuc, ◌-ℤ◌, refl, sym, ap, ◌∙◌, subst, arith}
+use Rattle.std.proofs.lemmas.List.{append_assoc, append-nil}
 use Rattle.std.proofs.lemmas.Int.{ints}
 use Rattle.std.proofs.lemmas.Bool.{lt-ltb, le-ltb}
 use Rattle.axis.specs.Questions.{AllYes}
@@ -10,12 +10,12 @@ use Rattle.axis.specs.declared.model.Bound.{Bound}
 use Rattle.boxes.specs.declared.model.Entry.{Entry}
 use Rattle.boxes.specs.declared.model.Direction.{Direction}
 use Rattle.boxes.specs.declared.model.Direction.TheVariants.{Time, Platform}
-use Rattle.boxes.specs.Letters.{letter_of, direction_of}
+use Rattle.boxes.specs.Letters.{letter_of}
 use Rattle.journal.specs.Journal.{Journal, with_entry}
 use Rattle.journal.specs.Asks.{Asked as SheetAsked, entry_asks}
 use Rattle.journal.specs.Steps.{Request, bind, asks, next}
 use Rattle.image.specs.Bytes.{two, entry_bytes, complement}
-use Rattle.walk.specs.Fields.{byte_at, number_at, entry_asks as fields_asks, entries_ask, after_entry, row_end}
+use Rattle.walk.specs.Fields.{number_at, entry_asks as fields_asks, entries_ask, after_entry, row_end}
 use Rattle.reader.specs.Entries.{signed, bind_at, bound}
 use Rattle.reader.specs.Located.{located}
 use Rattle.reader.specs.Reads.{binds_ask}

@@ -1,10 +1,10 @@
 -- The bytes of a stay that was read are those that are written of it.
-use Rattle.std.proofs.Common.{◌≡◌, ◌⊎◌, ℕ, zero, suc, ◌+◌, ◌*◌, ◌-◌, ◌/◌, ◌<◌, ◌≤◌, List, [], ◌∷◌, ◌++◌, length, flat_map, get_or, drop, take, inl, inr, refl, sym, ap, ◌∙◌, subst, arith}
+use Rattle.std.proofs.Common.{◌≡◌, ◌⊎◌, ℕ, zero, suc, ◌+◌, ◌*◌, ◌-◌, ◌/◌, ◌≤◌, List, [], ◌∷◌, ◌++◌, length, flat_map, drop, inl, inr, refl, sym, ap, ◌∙◌, subst, arith}
 use Rattle.std.proofs.Math.ListN.{drop_of_length-le}
-use Rattle.std.proofs.lemmas.List.{append_assoc, append-nil, take-append-drop, length-take-le, length-drop}
+use Rattle.std.proofs.lemmas.List.{append-nil, length-take-le, length-drop}
 use Rattle.axis.specs.Questions.{AllYes}
-use Rattle.image.specs.Bytes.{two, stay_bytes, stay_fields}
-use Rattle.walk.specs.Fields.{Asked, byte_at, number_at, after_stay, stay_asks, stays_ask, row_end, numbers_ask}
+use Rattle.image.specs.Bytes.{stay_bytes, stay_fields}
+use Rattle.walk.specs.Fields.{Asked, byte_at, after_stay, stay_asks, stays_ask, row_end, numbers_ask}
 use Rattle.walk.specs.Stays.{part_at, stay_in, stays_at}
 use Rattle.round_trip.specs.Tells.{Bytes}
 use Rattle.round_trip.proofs.Holds.{Holds, holds_then, holds_byte, holds_part, holds_number, drop_bytes, take_bytes}

@@ -1,20 +1,19 @@
 -- The image of a sheet that calls make is accepted, and tells that sheet.
-use Rattle.std.proofs.Common.{◌≡◌, ℕ, zero, suc, ◌+◌, ◌*◌, ◌-◌, ◌<◌, ◌≤◌, List, [], ◌∷◌, ◌++◌, length, flat_map, drop, refl, sym, ap, ◌∙◌, subst, arith}
+use Rattle.std.proofs.Common.{◌≡◌, ℕ, suc, ◌+◌, ◌≤◌, List, [], ◌∷◌, ◌++◌, length, flat_map, sym, ap, ◌∙◌, subst, arith}
 use Rattle.std.proofs.lemmas.List.{append-nil, length-append}
 use Rattle.axis.specs.Questions.{AllYes}
 use Rattle.axis.proofs.Asked.{all_yes_append}
-use Rattle.journal.specs.declared.model.Stay.{Stay}
 use Rattle.journal.specs.Journal.{Journal, loaded}
 use Rattle.journal.specs.Asks.{load_asks}
 use Rattle.image.specs.Bytes.{two, stay_bytes, entry_bytes, stays_bytes, entries_bytes, body_bytes, image_bytes}
 use Rattle.walk.specs.Fields.{byte_at, number_at, image_asks, stays_ask, rest_asks, parts_ask, entries_ask, after_stay, after_entry, row_end, ends_at, stays_end}
 use Rattle.walk.specs.Stays.{stays_at}
 use Rattle.reader.specs.Entries.{loaded_in, journal_in, bound}
-use Rattle.reader.specs.Located.{located, load_offset}
+use Rattle.reader.specs.Located.{load_offset}
 use Rattle.reader.specs.Reads.{Accepted, binds_ask}
 use Rattle.reader.proofs.Locating.{located_yes}
 use Rattle.journal.specs.Made.{Made}
-use Rattle.round_trip.proofs.Starts.{Starts, starts_first, starts_later, byte_read, byte_room, number_read, number_room, Stays-read, stays_read}
+use Rattle.round_trip.proofs.Starts.{Starts, starts_first, starts_later, byte_read, byte_room, number_read, Stays-read, stays_read}
 use Rattle.round_trip.proofs.Bound.{Entries-told, entries_told}
 
 module _ (bytes : List ℕ) (k : Journal) (made : Made k) (e : bytes ≡ image_bytes k) where

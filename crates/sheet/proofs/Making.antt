@@ -1,5 +1,5 @@
 -- A sheet that calls make, with one entry more and with the newest gone.
-use Rattle.std.proofs.Common.{◌≡◌, ◌<◌, ℕ, List, [], ◌∷◌, ◌++◌, length, take, Some, Ok, sym, refl, ap, ◌∙◌, subst}
+use Rattle.std.proofs.Common.{◌≡◌, ◌<◌, ℕ, List, [], ◌∷◌, ◌++◌, length, Some, Ok, sym, ap, ◌∙◌, subst}
 use Rattle.std.proofs.lemmas.List.{append-nil, append_assoc, length-map}
 use Rattle.axis.specs.Questions.{AllYes}
 use Rattle.axis.specs.Meaning.{Meaning, lines, with_bound, Remains}

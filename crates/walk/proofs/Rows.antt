@@ -1,5 +1,5 @@
 -- A row of parts, of which some were walked.
-use Rattle.std.proofs.Common.{◌≡◌, ℕ, zero, suc, ◌+◌, ◌*◌, ◌-◌, ◌<◌, ◌≤◌, List, ◌++◌, refl, sym, ap, ◌∙◌, subst, arith}
+use Rattle.std.proofs.Common.{◌≡◌, ℕ, zero, suc, ◌+◌, ◌*◌, ◌-◌, ◌<◌, ◌≤◌, ◌++◌, sym, ap, ◌∙◌, subst, arith}
 use Rattle.axis.specs.Questions.{AllYes, FirstNo}
 use Rattle.faults.specs.declared.model.ImageFault.{ImageFault}
 use Rattle.walk.specs.Fields.{Asked, row_asks, row_end}

@@ -1,4 +1,4 @@
-use Rattle.std.proofs.Common.{◌≡◌, ◌∙◌, rules, arith}
+use Rattle.std.proofs.Common.{rules, arith}
 use Rattle.reader.proofs.Offsets.{offset_more, offset_all}
 use Rattle.reader.proofs.loads.stay_offset.Goals as goal
 

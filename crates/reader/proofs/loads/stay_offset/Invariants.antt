@@ -1,4 +1,4 @@
-use Rattle.std.proofs.Common.{◌≡◌, ◌+◌, ◌-◌, ◌*◌, ◌≤◌}
+use Rattle.std.proofs.Common.{◌≡◌, ◌-◌, ◌*◌, ◌≤◌}
 use Rattle.walk.specs.Fields.{row_end, after_stay}
 use Rattle.reader.specs.Located.{stay_offset}
 use Rattle.reader.proofs.loads.stay_offset.Given as goal

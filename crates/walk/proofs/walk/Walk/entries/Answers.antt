@@ -1,8 +1,8 @@
-use Rattle.std.proofs.Common.{◌≡◌, ℕ, List, ◌∙◌, subst, arith}
+use Rattle.std.proofs.Common.{ℕ, List, ◌∙◌, subst, arith}
 use Rattle.std.proofs.lemmas.Result.{err_from_is_err_and}
 use Rattle.axis.specs.Questions.{AllYes, FirstNo}
 use Rattle.walk.specs.Fields.{entry_asks}
-use Rattle.walk.proofs.Rows.{walked_more, walked_refused, walked_end}
+use Rattle.walk.proofs.Rows.{walked_more, walked_refused}
 use Rattle.walk.proofs.walk.Walk.entries.Goals as goal
 
 pub returns-in_err-entry-clause-answer : goal.returns-in_err-entry-clause-answer

@@ -1,4 +1,4 @@
-use Rattle.std.proofs.Common.{◌≡◌, ◌∙◌, length, inl, refl, sym, ap, rules}
+use Rattle.std.proofs.Common.{◌∙◌, length, inl, refl, sym, ap}
 use Rattle.std.proofs.lemmas.Result.{err_from_is_err_and}
 use Rattle.axis.proofs.Asked.{first_no_append, first_no_after, all_yes_append}
 use Rattle.walk.proofs.Rows.{evenly}

@@ -1,7 +1,7 @@
-use Rattle.std.proofs.Common.{◌≡◌, ◌+◌, ◌∷◌, [], List, ℕ, ◌∙◌, subst, arith}
+use Rattle.std.proofs.Common.{◌∷◌, [], List, ℕ, ◌∙◌, subst, arith}
 use Rattle.axis.specs.Questions.{AllYes}
 use Rattle.walk.specs.Fields.{field}
-use Rattle.walk.proofs.Rows.{walked_more, walked_refused, walked_all, walked_end, evenly}
+use Rattle.walk.proofs.Rows.{walked_more, walked_end, evenly}
 use Rattle.walk.proofs.walk.Walk.numbers.Goals as goal
 
 pub loop-preserved : goal.loop-preserved
