@@ -3,11 +3,11 @@ ghost use Rattle.std.specs.Prelude.{◌≡◌};
 ghost use Rattle.boxes.specs.Letters.{letter_of, Names};
 
 use crate::Direction;
-use std::error::Error;
-use std::fmt;
+use thiserror::Error;
 
 // A letter that names no axis.
-#[derive(Clone, Copy, PartialEq, Eq, Debug)]
+#[derive(Clone, Copy, PartialEq, Eq, Debug, Error)]
+#[error("the letter is not T or P")]
 pub struct NoDirection;
 
 impl TryFrom<char> for Direction {
@@ -34,11 +34,3 @@ impl From<Direction> for char {
         }
     }
 }
-
-impl fmt::Display for NoDirection {
-    fn fmt<W: fmt::Write>(&self, f: &mut fmt::Formatter<W>) -> fmt::Result {
-        f.write_str("the letter is not T or P")
-    }
-}
-
-impl Error for NoDirection {}

@@ -2,11 +2,11 @@
 ghost use Rattle.stack.specs.Letters.{Names};
 
 use crate::Word;
-use std::error::Error;
-use std::fmt;
+use thiserror::Error;
 
 // A letter that names no word.
-#[derive(Clone, Copy, PartialEq, Eq, Debug)]
+#[derive(Clone, Copy, PartialEq, Eq, Debug, Error)]
+#[error("the word is not B, A, N or F")]
 pub struct NoWord;
 
 impl TryFrom<char> for Word {
@@ -24,11 +24,3 @@ impl TryFrom<char> for Word {
         }
     }
 }
-
-impl fmt::Display for NoWord {
-    fn fmt<W: fmt::Write>(&self, f: &mut fmt::Formatter<W>) -> fmt::Result {
-        f.write_str("the word is not B, A, N or F")
-    }
-}
-
-impl Error for NoWord {}

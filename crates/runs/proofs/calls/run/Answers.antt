@@ -1,12 +1,6 @@
 use Rattle.std.proofs.Common.{rules}
-use Rattle.runs.proofs.Listed.{ran_none, ran_more}
+use Rattle.runs.proofs.Listed.{ran_more}
 use Rattle.runs.proofs.calls.run.Goals as goal
-
-pub returns-in_err-reserve-clause-run : goal.returns-in_err-reserve-clause-run
-returns-in_err-reserve-clause-run g c = ran_none _ _ _ _ c.reserve.ensures.items
-
-pub loop-call-init : goal.loop-call-init
-loop-call-init g c = record { run = ran_none _ _ _ _ c.reserve.ensures.items; count = search rules; room = search rules }
 
 pub loop-call-preserved : goal.loop-call-preserved
 loop-call-preserved g c = record {
