@@ -31,7 +31,7 @@ fn bind_one<T: Axis, P: Axis>(
     if let Err(fault) = sheet.bind(char::from(image[at]), bound) {
         return Err(ImageFault {
             offset: at,
-            cause: fault.into(),
+            ..fault.into()
         });
     }
     Ok(())

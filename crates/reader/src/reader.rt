@@ -24,7 +24,7 @@ fn load_from<T: Axis, P: Axis>(
     if let Err(fault) = sheet.load(fields.span, fields.platform, fields.stays()) {
         return Err(ImageFault {
             offset: load_offset(image, fault),
-            cause: fault.into(),
+            ..fault.into()
         });
     }
     Ok(())

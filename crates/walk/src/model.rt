@@ -3,7 +3,8 @@ ghost use Rattle.std.specs.Prelude.{◌≡◌, length};
 
 use journal::Stay;
 
-// The entries are from the offset on to the end of the image, five bytes each. There is a slot for as many stays as a byte can count.
+// The entries are from the offset on to the end of the image, five bytes each.
+// Kept as slots and their count: there is one for as many stays as a byte can count, so that reading needs no memory.
 #[derive(Drop)]
 pub struct Fields {
     pub span: u16,
