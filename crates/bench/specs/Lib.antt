@@ -1,4 +1,3 @@
-pub mod Extents
 pub mod Ranges
 pub mod Windows
 pub mod Decided

@@ -1,7 +1,6 @@
 // Decides a packing on two axes of any kind.
 ghost use Rattle.std.specs.Prelude.{◌≡◌, ◌≤◌, true, IfOk, OnOk, vec_len};
-ghost use Rattle.boxes.specs.Overlaps.{Sized};
-ghost use Rattle.bench.specs.Extents.{GoodSize};
+ghost use Rattle.boxes.specs.Overlaps.{GoodSize, Sized};
 ghost use Rattle.bench.specs.Ranges.{lined};
 ghost use Rattle.bench.specs.Decided.{Decided};
 

@@ -14,9 +14,13 @@ Holds x w s = (x ≤ℤ s) × (s <ℤ (x +ℤ pos w))
 abbrev no_size : Size
 no_size = record { steps = 0; metres = 0 }
 
--- every box lasts a step and is a metre long at least, and neither passes the longest span
+-- a box lasts a step and is a metre long at least, and neither passes the longest span
+abbrev pub GoodSize : Size → Type 0
+GoodSize s = ((1 ≤ s.steps) × (s.steps ≤ 2880)) × ((1 ≤ s.metres) × (s.metres ≤ 2880))
+
+-- so it is of every box
 abbrev pub Sized : List Size → Type 0
-Sized sizes = (k : ℕ) → k < length sizes → ((1 ≤ (slice_index_or sizes k no_size).steps) × ((slice_index_or sizes k no_size).steps ≤ 2880)) × ((1 ≤ (slice_index_or sizes k no_size).metres) × ((slice_index_or sizes k no_size).metres ≤ 2880))
+Sized sizes = (k : ℕ) → k < length sizes → GoodSize (slice_index_or sizes k no_size)
 
 module _ (sizes : List Size) where
   -- of box i, counted from 1

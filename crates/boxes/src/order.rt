@@ -9,7 +9,8 @@ pub const MOST_BOXES: usize = 12;
 
 pub const MOST_PAIRS: usize = MOST_BOXES * (MOST_BOXES - 1) / 2;
 
-// How many pairs n boxes make. Kept as a premise here and below: each call has a number of its own, and a type for it would be no plainer.
+// How many pairs n boxes make.
+// Kept as a premise here and below: a type for a number up to twelve would be made at each call and opened in it, and none hands it on.
 pub fn pair_count(n: u8) -> usize
     requires { n ≤ 12 }
     ensures pairs { result ≡ pairs n }
@@ -28,7 +29,8 @@ pub fn lay_out(n: u8, trials: &mut [Trial])
     lay_rows(1, n, trials);
 }
 
-// Writes the pairs of box i with the boxes after it, and then those of the boxes after it. Kept a recursion, as the order is defined.
+// Writes the pairs of box i with the boxes after it, and then those of the boxes after it.
+// Kept a recursion, as the order is defined: a loop would have to keep how much of the buffer is left, which the parts tell by themselves.
 fn lay_rows(i: u8, n: u8, trials: &mut [Trial])
     requires few { n ≤ 12 }
     requires room { length trials.old ≡ length (pairs_from i (n - i)) }

@@ -75,6 +75,7 @@ pub enum Layer {
     Image,
 }
 
+// Kept by hand, here and below: nothing is promised of which variant a derived From makes.
 impl From<AxisFault> for SheetFault {
     ghost from_gives = { λ e r. r ≡ in_sheet e };
 

@@ -24,7 +24,7 @@ pub fn write<T: Axis, P: Axis>(sheet: &Sheet<T, P>, buffer: &mut [u8]) -> Result
         offset: 0,
         cause: Cause::Buffer,
     };
-    page::fill(buffer, |page| put_image(page, len, &body)).ok_or(fault)
+    page::fill(buffer, fault, |page| put_image(page, len, &body))
 }
 
 // The body's length stands before it.

@@ -9,11 +9,8 @@ use Rattle.journal.specs.declared.tables.Entries.{Entries}
 use Rattle.journal.specs.declared.tables.Ranges.{Ranges}
 use Rattle.journal.specs.Journal.{Journal, low_on, high_on}
 
-abbrev pub stays_in : Stays → List Stay
-stays_in s = s.items
-
 abbrev pub told : Stays → Entries → Journal
-told s e = record { span = s.extents.span; platform = s.extents.platform; stays = stays_in s; entries = e.items }
+told s e = record { span = s.extents.span; platform = s.extents.platform; stays = s.items; entries = e.items }
 
 -- the newest entry, and those before it
 abbrev pub Newest : List Entry → Option Entry → Type 0

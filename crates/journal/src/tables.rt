@@ -21,7 +21,7 @@ pub struct Stays {
 }
 
 // The entries, oldest first: at most 24 in each direction.
-// Kept without a model: a packing asks that at most 24 bounds stand on each axis, and behind a model nothing tells a settle so.
+// Kept without a model (one was tried): a packing asks that at most 24 bounds stand on each axis, which each of the calls would have to hand on.
 #[derive(Drop)]
 pub struct Entries {
     pub(crate) items: Held<Entry, 48>,

@@ -8,6 +8,7 @@ use std::marker::Model;
 mod asks;
 mod changes;
 
+// Kept in the clauses of its calls that it is sound: those who hold a ledger see what it means and not its invariant, and need the fact.
 #[derive(Drop)]
 pub struct Ledger {
     ranges: Held<Range, 12>,

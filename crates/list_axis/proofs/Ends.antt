@@ -7,11 +7,11 @@ use Rattle.axis.specs.Distance.{base, distance}
 use Rattle.axis.proofs.Walks.{walk_kept}
 use Rattle.axis.proofs.Tables.{base_self, base_over}
 use Rattle.axis.proofs.Distances.{in_order}
-use Rattle.ledger.specs.Lengths.{Near}
+use Rattle.ledger.specs.Lengths.{Near, entry}
 use Rattle.ledger.specs.Means.{Standing}
 use Rattle.ledger.proofs.Open.{ledger_right}
 use Rattle.list_axis.specs.declared.lengths.Lengths.{Lengths}
-use Rattle.list_axis.specs.Rows.{entry, Found, EdgesKept, Complete}
+use Rattle.list_axis.specs.Rows.{Found, EdgesKept, Complete}
 use Rattle.list_axis.proofs.Told.{shortest_length}
 
 module _ (m : Meaning) (s : Standing m) where

@@ -9,11 +9,11 @@ use Rattle.axis.specs.declared.model.Bound.{Bound}
 use Rattle.axis.specs.Meaning.{Meaning, lines, bound, down, up}
 use Rattle.axis.specs.Distance.{Right, distance}
 use Rattle.axis.proofs.Distances.{in_order, right_near}
-use Rattle.ledger.specs.Lengths.{Near}
+use Rattle.ledger.specs.Lengths.{Near, entry}
 use Rattle.ledger.specs.Means.{Standing}
 use Rattle.ledger.proofs.Open.{ledger_right}
 use Rattle.list_axis.specs.declared.lengths.Lengths.{Lengths}
-use Rattle.list_axis.specs.Rows.{entry, Found, IsEdge, total, Kept, BoundsKept, highest, lowest}
+use Rattle.list_axis.specs.Rows.{Found, IsEdge, total, Kept, BoundsKept, highest, lowest}
 use Rattle.list_axis.specs.Passing.{Passed}
 use Rattle.list_axis.proofs.Totals.{above_less, total_set}
 

@@ -5,11 +5,7 @@ use Rattle.axis.specs.declared.model.Bound.{Bound}
 use Rattle.axis.specs.Meaning.{Meaning, lines, low, high, Edge}
 use Rattle.axis.specs.Asks.{Within, Tightest}
 use Rattle.axis.specs.Distance.{distance}
-use Rattle.ledger.specs.Lengths.{Near}
-
--- the length to line j
-abbrev pub entry : List ℤ → ℕ → ℤ
-entry row j = slice_index_or row j (pos 0)
+use Rattle.ledger.specs.Lengths.{Near, entry}
 
 -- the lengths of ways from line s: none is shorter than the shortest, and line s is at no distance from itself
 pub record Found (m : Meaning) (s : ℕ) (row : List ℤ) : Type 0 where

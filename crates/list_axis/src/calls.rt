@@ -44,6 +44,7 @@ impl Axis for ListAxis {
         self.ledger.reset(lows, highs)
     }
 
+    // Kept beside the matrix axis's: what both do with a ledger is the ledger's, and the table is mended in between.
     fn put(&mut self, bound: Bound) -> Result<(), AxisFault> {
         self.ledger.admits(bound)?;
         if self.closes_ring(bound) {

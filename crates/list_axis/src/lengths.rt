@@ -19,7 +19,7 @@ pub struct Lengths<'a> {
     ghost found: { Found ledger.now start row },
 }
 
-// The length to line j is at place j.
+// The length to line j is at place j. Kept as a premise, here and below: a ledger by itself may have bounds that leave no placement.
 pub fn lengths_from(ledger: &Ledger, start: usize) -> [i16; 13]
     requires standing { Standing ledger.now }
     requires line { start ≤ lines ledger.now }

@@ -6,10 +6,10 @@ use Rattle.axis.specs.Asks.{Named, Tightest}
 use Rattle.axis.specs.Distance.{distance, Right}
 use Rattle.axis.proofs.Tables.{base_self}
 use Rattle.axis.proofs.Distances.{right_near, right_tightest}
-use Rattle.ledger.specs.Lengths.{Near}
+use Rattle.ledger.specs.Lengths.{Near, entry}
 use Rattle.ledger.proofs.Open.{ledger_right}
 use Rattle.matrix_axis.specs.declared.MatrixAxis.{MatrixAxis}
-use Rattle.matrix_axis.specs.Cells.{entry, cell, Kept, Closed}
+use Rattle.matrix_axis.specs.Cells.{cell, Kept, Closed}
 use Rattle.matrix_axis.proofs.Kept.{right_closed}
 
 module _ (a : MatrixAxis) where

@@ -5,7 +5,8 @@ use Rattle.std.proofs.lemmas.Int.{ints}
 use Rattle.axis.specs.declared.model.Bound.{Bound}
 use Rattle.axis.specs.Asks.{Within}
 use Rattle.axis.specs.Distance.{Table, mend}
-use Rattle.matrix_axis.specs.Cells.{entry, cell, Same, Closed}
+use Rattle.ledger.specs.Lengths.{entry}
+use Rattle.matrix_axis.specs.Cells.{cell, Same, Closed}
 use Rattle.matrix_axis.specs.Lists.{Listed}
 use Rattle.matrix_axis.specs.Mending.{Pending}
 use Rattle.matrix_axis.specs.declared.over.Over.{Over}

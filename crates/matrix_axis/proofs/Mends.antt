@@ -8,7 +8,8 @@ use Rattle.std.proofs.lemmas.Bool.{cases_eq}
 use Rattle.std.proofs.ByRecursion.{has_append_left, has_push, has_push_cases}
 use Rattle.axis.specs.Asks.{Named}
 use Rattle.axis.specs.Distance.{Table}
-use Rattle.matrix_axis.specs.Cells.{entry, cell, row_of}
+use Rattle.ledger.specs.Lengths.{entry}
+use Rattle.matrix_axis.specs.Cells.{cell, row_of}
 use Rattle.matrix_axis.specs.Mending.{way, Pending, RowMended, Mended}
 use Rattle.matrix_axis.specs.declared.over.Over.{Over}
 

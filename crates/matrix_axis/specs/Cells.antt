@@ -1,13 +1,9 @@
 -- The table of a matrix axis: thirteen rows of thirteen lengths.
-use Rattle.std.specs.Prelude.{◌≡◌, ℕ, ◌≤◌, List, [], ℤ, pos, ◌+ℤ◌, ◌≤ℤ◌, slice_index_or}
+use Rattle.std.specs.Prelude.{◌≡◌, ℕ, ◌≤◌, List, [], ℤ, ◌+ℤ◌, ◌≤ℤ◌, slice_index_or}
 use Rattle.axis.specs.Meaning.{Meaning, lines}
 use Rattle.axis.specs.Asks.{Named}
-use Rattle.ledger.specs.Lengths.{Near}
+use Rattle.ledger.specs.Lengths.{Near, entry}
 use Rattle.axis.specs.Distance.{Table, distance}
-
--- the number at a place of a row or a column
-abbrev pub entry : List ℤ → ℕ → ℤ
-entry xs r = slice_index_or xs r (pos 0)
 
 abbrev pub row_of : List (List ℤ) → ℕ → List ℤ
 row_of rows i = slice_index_or rows i []

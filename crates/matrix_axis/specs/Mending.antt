@@ -3,7 +3,8 @@ use Rattle.std.specs.Prelude.{ℕ, ◌≤◌, ◌⊎◌, List, ℤ, ◌+ℤ◌, 
 use Rattle.std.specs.Int.{int_min}
 use Rattle.std.specs.List.{ContainsAt}
 use Rattle.axis.specs.Distance.{Table}
-use Rattle.matrix_axis.specs.Cells.{entry, cell, Same}
+use Rattle.ledger.specs.Lengths.{entry}
+use Rattle.matrix_axis.specs.Cells.{cell, Same}
 use Rattle.matrix_axis.specs.declared.over.Over.{Over}
 
 -- from line i to the bound's start, over it, and on from its end to line j

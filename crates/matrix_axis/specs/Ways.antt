@@ -1,8 +1,7 @@
 -- The parts of the ways over a bound.
 use Rattle.std.specs.Prelude.{ℕ, ◌≤◌, List, ℤ}
 use Rattle.axis.specs.Asks.{InReach}
-use Rattle.ledger.specs.Lengths.{Near}
-use Rattle.matrix_axis.specs.Cells.{entry}
+use Rattle.ledger.specs.Lengths.{Near, entry}
 
 -- every part of a way over the bound is short enough that the sum fits 16 bits
 pub record Short (n : ℕ) (starts : List ℤ) (d : ℤ) (ends : List ℤ) : Type 0 where

@@ -3,7 +3,8 @@ ghost use Rattle.std.specs.Prelude.{◌≡◌, ℕ, ◌≤◌};
 ghost use Rattle.axis.specs.Meaning.{lines};
 ghost use Rattle.axis.specs.Distance.{base};
 ghost use Rattle.ledger.specs.Means.{Standing};
-ghost use Rattle.matrix_axis.specs.Cells.{entry, Same, Kept};
+ghost use Rattle.ledger.specs.Lengths.{entry};
+ghost use Rattle.matrix_axis.specs.Cells.{Same, Kept};
 
 use crate::table::Table;
 use ledger::Ledger;

@@ -1,6 +1,7 @@
 // The table of lengths.
 ghost use Rattle.std.specs.Prelude.{◌≡◌, ℕ, ◌<◌, ◌≤◌, pos, replicate};
-ghost use Rattle.matrix_axis.specs.Cells.{cell, entry, row_of};
+ghost use Rattle.ledger.specs.Lengths.{entry};
+ghost use Rattle.matrix_axis.specs.Cells.{cell, row_of};
 
 use std::array;
 

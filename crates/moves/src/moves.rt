@@ -145,8 +145,7 @@ impl<T: Axis, P: Axis> Axes<T, P> {
         ensures nearest { Earliest self.now.platform (metre_of places.new) }
     {
         for (k, place) in places.iter_mut().enumerate() {
-            let (step, metre) = place_of(&self.time, &self.platform, k as u8 + 1);
-            *place = Place { step, metre };
+            *place = place_of(&self.time, &self.platform, k as u8 + 1);
         }
     }
 }

@@ -4,4 +4,5 @@
 mod descent;
 mod packs;
 
+pub use moves::{Axes, Standing};
 pub use packs::{NoArrangement, pack};

@@ -21,6 +21,7 @@ pub struct NoArrangement {
     pub tries: u64,
 }
 
+// Kept without the derive of an error: that promises nothing of the words.
 impl fmt::Display for NoArrangement {
     ghost output = { λ f. Some (codes "no arrangement exists") };
 
@@ -32,7 +33,7 @@ impl fmt::Display for NoArrangement {
 impl Error for NoArrangement {}
 
 // The packing with buffers of just the length.
-// Kept as four parameters: axes, sizes and both buffers are lent one by one.
+// Kept as four parameters: axes, sizes and both buffers are lent one by one, and one struct of the four would be the board.
 fn fill<T: Axis, P: Axis>(
     axes: &mut Axes<T, P>,
     sizes: &[Size],

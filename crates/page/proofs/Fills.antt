@@ -1,8 +1,7 @@
 -- What is counted and what is left in the lent bytes, where all were put on a page.
-use Rattle.std.proofs.Common.{◌≡◌, ℕ, ◌+◌, ◌≤◌, min, List, [], ◌∷◌, ◌++◌, length, drop, set, sym, refl, ap, ◌∙◌, append_assoc, arith, Option, Some, None, ok_or}
+use Rattle.std.proofs.Common.{◌≡◌, ℕ, ◌+◌, ◌≤◌, min, List, [], ◌∷◌, ◌++◌, length, drop, set, sym, refl, ap, ◌∙◌, append_assoc, arith}
 use Rattle.std.proofs.lemmas.List.{set_at, length_push}
 use Rattle.page.specs.Pages.{put, put_one, most}
-use Rattle.page.specs.Fills.{Fills, FillsOr}
 use Rattle.page.specs.declared.Page.{Page}
 
 -- the lender has afterwards what the page held last
@@ -26,8 +25,3 @@ put_bytes p front (y ∷ back) (b ∷ more) a e h k =
     let longer : length (front ++ b ∷ []) ≡ length front + 1 = length_push front b in
     let rest = put_bytes (put_one p b) (front ++ b ∷ []) back more (ap (λ (bytes : List ℕ). set bytes p.len b) a ∙ placed) (omega arith) (omega arith) (omega arith) in
     rest ∙ append_assoc front (b ∷ []) _
-
--- a refusal with its reason
-pub fills_or : {E : Type 0} (why : E) (told before after : List ℕ) (n : Option ℕ) → Fills told before after n → FillsOr why told before after (ok_or n why)
-fills_or why told before after (Some n) filled = filled
-fills_or why told before after None short = (short, refl)

@@ -1,5 +1,5 @@
 -- Whether a lent buffer is long enough for what is put, and what is then left in it.
-use Rattle.std.specs.Prelude.{◌≡◌, ℕ, ◌<◌, ◌≤◌, List, ◌++◌, length, drop, Option, Some, None, Result, Ok, Err}
+use Rattle.std.specs.Prelude.{◌≡◌, ℕ, ◌<◌, ◌≤◌, List, ◌++◌, length, drop, Result, Ok, Err}
 use Rattle.std.specs.Borrow.{MutBor}
 use Rattle.std.specs.Fn.{Shared}
 use Rattle.page.specs.declared.Page.{Page}
@@ -24,11 +24,7 @@ pub record Short (told before after : List ℕ) : Type 0 where
   pub short : length before < length told
   pub bytes : after ≡ before
 
-abbrev pub Fills : List ℕ → List ℕ → List ℕ → Option ℕ → Type 0
-Fills told before after (Some n) = Filled told before after n
-Fills told before after None = Short told before after
-
--- the same, where a refusal gives its reason
+-- one of the two, and a refusal gives its reason
 abbrev pub FillsOr : {E : Type 0} → E → List ℕ → List ℕ → List ℕ → Result ℕ E → Type 0
 FillsOr why told before after (Ok n) = Filled told before after n
 FillsOr why told before after (Err fault) = Short told before after × (fault ≡ why)

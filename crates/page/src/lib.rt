@@ -2,7 +2,7 @@
 #![tactic(auto, unfolding(crate::specs::Pages::put))]
 
 ghost use Rattle.std.specs.Prelude.{◌≡◌, ℕ, min, List, length};
-ghost use Rattle.page.specs.Fills.{Fills, Puts};
+ghost use Rattle.page.specs.Fills.{FillsOr, Puts};
 ghost use Rattle.page.specs.Pages.{most, put, put_one};
 
 // What finds no place on the page is counted all the same, so a page on no bytes tells how many there would be.
@@ -59,16 +59,16 @@ pub fn count<F: Fn(&mut Page<'_>)>(write: &F) -> usize
     page.len()
 }
 
-// What the call puts on a page fills the front of the buffer, and the answer is its length; a buffer too short is left as it was.
-pub fn fill<F: Fn(&mut Page<'_>)>(buffer: &mut [u8], write: F) -> Option<usize>
+// What the call puts on a page fills the front of the buffer, and the answer is its length; a buffer too short is left as it was, and the answer is why.
+pub fn fill<E: Copy, F: Fn(&mut Page<'_>)>(buffer: &mut [u8], why: E, write: F) -> Result<usize, E>
     requires { F.IsAlwaysCallable write }
-    ensures { (told : List ℕ) → Puts F.Fn write told → Fills told buffer.old buffer.new result }
+    ensures { (told : List ℕ) → Puts F.Fn write told → FillsOr why told buffer.old buffer.new result }
 {
     let needed = count(&write);
     if needed > buffer.len() {
-        return None;
+        return Err(why);
     }
     let mut page = Page::new(buffer);
     write(&mut page);
-    Some(needed)
+    Ok(needed)
 }

@@ -8,7 +8,8 @@ use axis::Axis;
 use sheet::Sheet;
 use std::alloc::{AllocError, Global};
 
-// One call; only the answer of a settle needs memory. Kept side by side: an allocator and a sheet in one struct would be no plainer.
+// One call; only the answer of a settle needs memory.
+// Kept side by side: a struct of an allocator and a lent sheet would be made for each call and taken apart in it.
 fn give<T: Axis, P: Axis>(
     heap: Global,
     sheet: &mut Sheet<T, P>,

@@ -1,5 +1,5 @@
 -- What the axes of a journal mean, what one entry more asks of it, and what is written into the buffers of a settle.
-use Rattle.std.specs.Prelude.{◌≡◌, ◌≢◌, ℕ, ◌≤◌, Bool, true, false, List, ◌++◌, length, drop, replicate, Ok, Err, Result}
+use Rattle.std.specs.Prelude.{◌≡◌, ◌≢◌, ℕ, ◌≤◌, List, ◌++◌, length, drop, replicate, Ok, Err, Result}
 use Rattle.stack.specs.declared.elements.Trial.{Trial}
 use Rattle.axis.specs.Questions.{AllYes, FirstNo}
 use Rattle.faults.specs.declared.model.SheetFault.{SheetFault}
@@ -20,12 +20,8 @@ abbrev pub Entered : Journal → Entry → Result Unit SheetFault → Journal �
 Entered k e (Ok u) k' = AllYes (entry_asks k e) × (k' ≡ with_entry k e)
 Entered k e (Err f) k' = FirstNo (entry_asks k e) f × (k' ≡ k)
 
--- every record of both buffers that were lent to seek places for n stays: without a plan a blank record stands for each pair
-abbrev pub Filled : ℕ → List Place → List Place → List Trial → List Trial → Bool → Type 0
-Filled n old new before after true = (drop n new ≡ drop n old) × (drop (pairs n) after ≡ drop (pairs n) before)
-Filled n old new before after false = (new ≡ old) × (after ≡ replicate (pairs n) no_trial ++ drop (pairs n) before)
-
--- so they are after a settle, which had room for all; and any other refusal leaves them as they were
+-- every record of both buffers that were lent to seek places for n stays: with a plan there was room for all, and later records are as
+-- they were; without one the places are as they were, and a blank record stands for each pair; any other refusal leaves both as they were
 abbrev pub Written : ℕ → List Place → List Place → List Trial → List Trial → Result Unit SheetFault → Type 0
-Written n old new before after (Ok u) = ((n ≤ length old) × (pairs n ≤ length before)) × Filled n old new before after true
-Written n old new before after (Err f) = (f ≡ refuse.NoPlan → Filled n old new before after false) × ((f ≢ refuse.NoPlan) → (new ≡ old) × (after ≡ before))
+Written n old new before after (Ok u) = ((n ≤ length old) × (pairs n ≤ length before)) × ((drop n new ≡ drop n old) × (drop (pairs n) after ≡ drop (pairs n) before))
+Written n old new before after (Err f) = (f ≡ refuse.NoPlan → (new ≡ old) × (after ≡ replicate (pairs n) no_trial ++ drop (pairs n) before)) × ((f ≢ refuse.NoPlan) → (new ≡ old) × (after ≡ before))

@@ -24,6 +24,7 @@ impl<T: Axis, P: Axis> Sheet<T, P> {
         self.stays.extents()
     }
 
+    // Kept beside the extents, like the metres: a caller that asks for one number need not take a struct apart.
     pub fn span(&self) -> u16
         ensures { result ≡ self.now.span }
     {

@@ -25,7 +25,7 @@ impl<T: Axis, P: Axis> Sheet<T, P> {
         if trials.len() < pair_count(count) {
             return Err(SheetFault::Trials);
         }
-        // Kept without a From: for this one call it would be no plainer.
+        // Kept without a From: it would stand with the faults, which know of no packing.
         pack(&mut self.axes, self.stays.sizes(), places, trials).or(Err(SheetFault::NoPlan))?;
         Ok(())
     }

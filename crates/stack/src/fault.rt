@@ -10,6 +10,7 @@ pub enum StackFault {
     Empty = 42,
 }
 
+// Kept in each crate that has faults: a trait for one cast would be longer than the three.
 impl StackFault {
     pub fn number(self) -> u8
         ensures { result ≡ number self }
@@ -18,6 +19,7 @@ impl StackFault {
     }
 }
 
+// Kept without the derive of an error: that promises nothing of the words.
 impl fmt::Display for StackFault {
     ghost output = { λ f. Some (words f) };
 

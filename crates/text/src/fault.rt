@@ -10,6 +10,7 @@ pub enum TextFault {
     Buffer = 36,
 }
 
+// Kept in each crate that has faults: a trait for one cast would be longer than the three.
 impl TextFault {
     pub fn number(self) -> u8
         ensures { result ≡ number self }

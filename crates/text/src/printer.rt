@@ -11,17 +11,17 @@ use faults::ImageFault;
 pub fn print_plan(places: &[Place], buffer: &mut [u8]) -> Result<usize, TextFault>
     ensures { Printed (plan_text places.now) buffer.old buffer.new result }
 {
-    page::fill(buffer, |page| put_plan(page, places)).ok_or(TextFault::Buffer)
+    page::fill(buffer, TextFault::Buffer, |page| put_plan(page, places))
 }
 
 pub fn print_no_plan(buffer: &mut [u8]) -> Result<usize, TextFault>
     ensures { Printed no_plan_text buffer.old buffer.new result }
 {
-    page::fill(buffer, |page| page.bytes(b"no plan\n")).ok_or(TextFault::Buffer)
+    page::fill(buffer, TextFault::Buffer, |page| page.bytes(b"no plan\n"))
 }
 
 pub fn print_fault(fault: ImageFault, buffer: &mut [u8]) -> Result<usize, TextFault>
     ensures { Printed (fault_text fault) buffer.old buffer.new result }
 {
-    page::fill(buffer, |page| put_fault(page, fault)).ok_or(TextFault::Buffer)
+    page::fill(buffer, TextFault::Buffer, |page| put_fault(page, fault))
 }

@@ -110,7 +110,7 @@ impl<'a, 't, T: Axis, P: Axis> Board<'a, 't, T, P> {
             return false;
         }
         self.tries = self.tries.saturating_add(1);
-        // kept a pattern: the proof reads which fault it was
+        // Kept a pattern: by is_err() the proof would not know which fault it was.
         if let Err(_) = self.axes.put(entry) {
             return false;
         }

@@ -2,7 +2,7 @@ use Rattle.std.proofs.Common.{inl, inr, ap, arith}
 use Rattle.std.proofs.lemmas.Int.{ints}
 use Rattle.std.proofs.lemmas.Bool.{cases_Bool}
 use Rattle.axis.specs.Distance.{distance}
-use Rattle.list_axis.specs.Rows.{entry}
+use Rattle.ledger.specs.Lengths.{entry}
 use Rattle.list_axis.proofs.ListAxis.closes_ring.Goals as goal
 
 pub returns : goal.returns

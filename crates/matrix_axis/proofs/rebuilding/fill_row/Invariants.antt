@@ -1,6 +1,6 @@
 use Rattle.std.proofs.Common.{◌≡◌, ℕ, ◌<◌}
 use Rattle.axis.specs.Distance.{base}
-use Rattle.matrix_axis.specs.Cells.{entry}
+use Rattle.ledger.specs.Lengths.{entry}
 use Rattle.matrix_axis.proofs.rebuilding.fill_row.Given as goal
 
 abbrev pub invariant-loop-j : goal.invariant-loop-j

@@ -1,7 +1,6 @@
 use Rattle.std.proofs.Common.{rules}
-use Rattle.page.proofs.Fills.{fills_or}
 use Rattle.text.specs.Texts.{fault_text}
 use Rattle.text.proofs.printer.print_fault.Goals as goal
 
 pub returns : goal.returns
-returns c = rw c.ok_or.ensures.value (fills_or _ _ _ _ _ (c.fill.ensures (fault_text c.args.fault) (λ p q put. search rules)))
+returns c = c.fill.ensures (fault_text c.args.fault) (λ p q put. search rules)

@@ -1,7 +1,7 @@
 use Rattle.std.proofs.Common.{ap, refl, arith}
 use Rattle.std.proofs.lemmas.Int.{ints}
 use Rattle.std.proofs.lemmas.Bool.{true≢false, false≢true}
-use Rattle.list_axis.specs.Rows.{entry}
+use Rattle.ledger.specs.Lengths.{entry}
 use Rattle.list_axis.proofs.Steps.{shortened_found, shortened_falls}
 use Rattle.list_axis.proofs.lengths.Lengths.relax.Goals as goal
 

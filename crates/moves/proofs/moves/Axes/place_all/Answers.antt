@@ -3,7 +3,7 @@ use Rattle.moves.proofs.Least.{settled_more, settled_all}
 use Rattle.moves.proofs.moves.Axes.place_all.Goals as goal
 
 pub loop-k-preserved : goal.loop-k-preserved
-loop-k-preserved g c = settled_more _ c.loop-k.places c.loop-k.k _ (omega arith) c.loop-k.invariant c.place_of-step.ensures
+loop-k-preserved g c = settled_more _ c.loop-k.places c.loop-k.k _ (omega arith) c.loop-k.invariant c.place_of.ensures
 
 pub returns : goal.returns
 returns g c =
