@@ -1,12 +1,11 @@
 // The worked image whole, cut short, and with one byte changed; and the text that answers it.
 use answer::answer;
 use axis::Axis;
-use faults::ImageFault;
 use list_axis::ListAxis;
 use matrix_axis::MatrixAxis;
 use reader::read;
 use sheet::Sheet;
-use std::alloc::Global;
+use std::alloc::{AllocError, Global};
 use std::process::Abort;
 use std::test::Fail;
 
@@ -56,11 +55,6 @@ const CHANGES: [(usize, u8, u8, usize); 26] = [
 
 const STAY: [u8; 9] = *b"\x08\x00\x1E\x00\x00\x00\x00\x00\x01";
 
-// The refusal's number and its byte, or none.
-fn refusal(read: Result<(), ImageFault>) -> Option<(u8, usize)> {
-    read.err().map(|fault| (fault.cause.number(), fault.offset))
-}
-
 // A function, so that no proof computes what the image tells.
 fn worked() -> [u8; 50] {
     IMAGE
@@ -74,77 +68,149 @@ fn changed(at: usize, value: u8) -> [u8; 50] {
     image
 }
 
+// A head, one part so many times, and what comes behind; the first two bytes count the others.
+#[derive(Clone, Copy)]
+struct Parts<'a> {
+    head: &'a [u8],
+    part: &'a [u8],
+    times: u8,
+    tail: &'a [u8],
+}
+
+impl Parts<'_> {
+    fn body(&self, heap: Global) -> Result<Vec<u8>, AllocError> {
+        let mut body = Vec::from_slice(heap, self.head)?;
+        for _ in 0..self.times {
+            body.extend_from_slice(self.part)?;
+        }
+        body.extend_from_slice(self.tail)?;
+        Ok(body)
+    }
+
+    fn image(&self, heap: Global) -> Result<Vec<u8>, AllocError> {
+        let body = self.body(heap)?;
+        let length = (body.len() % 65536) as u16;
+        let mut image = Vec::from_slice(heap, &length.to_be_bytes())?;
+        image.extend_from_slice(body.as_slice())?;
+        Ok(image)
+    }
+}
+
+// The refusal's number and its byte, or none.
+fn refusal<T: Axis, P: Axis>(image: &[u8], sheet: &mut Sheet<T, P>) -> Option<(u8, usize)> {
+    let fault = read(image, sheet).err()?;
+    Some((fault.cause.number(), fault.offset))
+}
+
 // A refusal before the first entry leaves the sheet as it was, and one at an entry leaves it as a new one.
 fn refused<T: Axis, P: Axis>(
     rt: &impl Abort,
     sheet: &mut Sheet<T, P>,
     image: &[u8],
-    number: u8,
-    offset: usize,
-) -> Result<(), Fail> {
-    read(&worked(), sheet)?;
-    assert_eq!(rt; refusal(read(image, sheet)), Some((number, offset)));
+    fault: (u8, usize),
+) {
+    assert_eq!(rt; refusal(&worked(), sheet), None);
+    assert_eq!(rt; refusal(image, sheet), Some(fault));
+    let (number, offset) = fault;
     let left = if offset >= 40 && number < 31 { 0 } else { 3 };
     assert_eq!(rt; sheet.stays().len(), left);
+}
+
+fn refused_parts<T: Axis, P: Axis>(
+    rt: &impl Abort,
+    heap: Global,
+    sheet: &mut Sheet<T, P>,
+    parts: &Parts<'_>,
+    fault: (u8, usize),
+) -> Result<(), Fail> {
+    let image = parts.image(heap)?;
+    refused(rt, sheet, image.as_slice(), fault);
     Ok(())
 }
 
-fn refusals<T: Axis, P: Axis>(rt: &impl Abort, sheet: &mut Sheet<T, P>) -> Result<(), Fail> {
+fn one_byte_changed<T: Axis, P: Axis>(rt: &impl Abort, sheet: &mut Sheet<T, P>) {
     for &(at, value, number, offset) in &CHANGES {
-        refused(rt, sheet, &changed(at, value), number, offset)?;
+        refused(rt, sheet, &changed(at, value), (number, offset));
     }
-    Ok(())
 }
 
-#[test]
-fn one_byte_changed(rt: HostRuntime) -> Result<(), Fail> {
-    let heap = rt.alloc();
-    let mut sheet = Sheet::new(heap, MatrixAxis::new(heap)?, ListAxis::new(heap)?)?;
-    refusals(&rt, &mut sheet)
-}
-
-#[test]
-fn whole(rt: HostRuntime) -> Result<(), Fail> {
-    let heap = rt.alloc();
-    let mut sheet = Sheet::new(heap, ListAxis::new(heap)?, MatrixAxis::new(heap)?)?;
-    read(&worked(), &mut sheet)?;
+fn whole<T: Axis, P: Axis>(rt: &impl Abort, sheet: &mut Sheet<T, P>) {
+    assert_eq!(rt; refusal(&worked(), sheet), None);
     assert_eq!(rt; sheet.span(), 7);
     assert_eq!(rt; sheet.metres(), 100);
     assert_eq!(rt; sheet.stays().len(), 3);
     assert_eq!(rt; sheet.entries().len(), 2);
-    Ok(())
 }
 
 // The length counts the whole image still.
-#[test]
-fn cut_short(rt: HostRuntime) -> Result<(), Fail> {
-    let heap = rt.alloc();
-    let mut sheet = Sheet::new(heap, ListAxis::new(heap)?, MatrixAxis::new(heap)?)?;
+fn cut_short<T: Axis, P: Axis>(rt: &impl Abort, sheet: &mut Sheet<T, P>) {
     for n in 0..50 {
-        assert_eq!(rt; refusal(read(&worked()[0..n], &mut sheet)), Some((31, 0)));
+        assert_eq!(rt; refusal(&worked()[0..n], sheet), Some((31, 0)));
     }
-    Ok(())
 }
 
 // The length counts what is left; the refusal is at the last field that begins there.
-#[test]
-fn cut_short_with_its_length(rt: HostRuntime) -> Result<(), Fail> {
-    let heap = rt.alloc();
-    let mut sheet = Sheet::new(heap, MatrixAxis::new(heap)?, MatrixAxis::new(heap)?)?;
-    let at_version = changed(1, 0);
-    assert_eq!(rt; refusal(read(&at_version[0..2], &mut sheet)), Some((32, 2)));
+fn cut_short_with_its_length<T: Axis, P: Axis>(rt: &impl Abort, sheet: &mut Sheet<T, P>) {
+    assert_eq!(rt; refusal(&changed(1, 0)[0..2], sheet), Some((32, 2)));
     for n in 3..50 {
         let image = changed(1, n as u8 - 2);
         let field = FIELDS.iter().copied().filter(|at| *at <= n).last();
-        assert_eq!(rt;
-            refusal(read(&image[0..n], &mut sheet)),
-            field.map(|at| (33, at))
-        );
+        assert_eq!(rt; refusal(&image[0..n], sheet), field.map(|at| (33, at)));
     }
-    Ok(())
 }
 
-fn print<T: Axis, P: Axis>(
+// All fields are walked before the sheet is asked: 255 stays and as many entries.
+fn too_many<T: Axis, P: Axis>(
+    rt: &impl Abort,
+    heap: Global,
+    sheet: &mut Sheet<T, P>,
+) -> Result<(), Fail> {
+    let thirteen = Parts {
+        head: b"\x01\x00\x07\x00\x64\x0D",
+        part: &STAY,
+        times: 13,
+        tail: b"\x00",
+    };
+    refused_parts(rt, heap, sheet, &thirteen, (12, 7))?;
+    let cut = Parts {
+        head: b"\x01\x00\x07\x00\x64\xFF",
+        part: &STAY,
+        times: 255,
+        tail: b"\x01T",
+    };
+    refused_parts(rt, heap, sheet, &cut, (33, 2305))?;
+    let entries = Parts {
+        head: b"\x01\x00\x07\x00\x64\x01\x08\x00\x1E\x00\x00\x00\x00\x00\x01\x19",
+        part: b"T\x01\x01\x00\x00",
+        times: 25,
+        tail: b"",
+    };
+    refused_parts(rt, heap, sheet, &entries, (18, 138))
+}
+
+// Lead and dwell are 65535 seconds each, and a window from step 65535 on.
+fn sums_do_not_wrap<T: Axis, P: Axis>(
+    rt: &impl Abort,
+    heap: Global,
+    sheet: &mut Sheet<T, P>,
+) -> Result<(), Fail> {
+    let doors = Parts {
+        head: b"\x01\x00\x07\x00\x64\x01",
+        part: b"\x08\x00\x1E\xFF\xFF\xFF\xFF\x00\x01",
+        times: 1,
+        tail: b"\x00",
+    };
+    refused_parts(rt, heap, sheet, &doors, (14, 8))?;
+    let window = Parts {
+        head: b"\x01\x00\x07\x00\x64\x01",
+        part: b"\x0C\x00\x3C\x00\x00\x00\x00\x00\x01\xFF\xFF\x00\x01",
+        times: 1,
+        tail: b"\x00",
+    };
+    refused_parts(rt, heap, sheet, &window, (16, 8))
+}
+
+fn prints<T: Axis, P: Axis>(
     rt: &impl Abort,
     sheet: &mut Sheet<T, P>,
     image: &[u8],
@@ -156,79 +222,72 @@ fn print<T: Axis, P: Axis>(
     Ok(())
 }
 
-// A head, one part so many times, and what comes behind; the first two bytes count the others.
-fn joined(heap: Global, head: &[u8], part: &[u8], times: u8, tail: &[u8]) -> Result<Vec<u8>, Fail> {
-    let mut image = Vec::from_slice(heap, &[0, 0])?;
-    image.extend_from_slice(head)?;
-    for _ in 0..times {
-        image.extend_from_slice(part)?;
-    }
-    image.extend_from_slice(tail)?;
-    let [high, low] = ((image.len() % 65536) as u16).wrapping_sub(2).to_be_bytes();
-    if let Some(byte) = image.get_mut(0) {
-        *byte = high;
-    }
-    if let Some(byte) = image.get_mut(1) {
-        *byte = low;
-    }
-    Ok(image)
+fn prints_parts<T: Axis, P: Axis>(
+    rt: &impl Abort,
+    heap: Global,
+    sheet: &mut Sheet<T, P>,
+    parts: &Parts<'_>,
+    text: &[u8],
+) -> Result<(), Fail> {
+    let image = parts.image(heap)?;
+    prints(rt, sheet, image.as_slice(), text)
 }
 
-// All fields are walked before the sheet is asked: 255 stays and as many entries.
-#[test]
-fn too_many(rt: HostRuntime) -> Result<(), Fail> {
-    let heap = rt.alloc();
-    let mut sheet = Sheet::new(heap, MatrixAxis::new(heap)?, MatrixAxis::new(heap)?)?;
-    let stays = joined(heap, b"\x01\x00\x07\x00\x64\x0D", &STAY, 13, b"\x00")?;
-    assert_eq!(rt; refusal(read(stays.as_slice(), &mut sheet)), Some((12, 7)));
-    let cut = joined(heap, b"\x01\x00\x07\x00\x64\xFF", &STAY, 255, b"\x01T")?;
-    assert_eq!(rt; refusal(read(cut.as_slice(), &mut sheet)), Some((33, 2305)));
-    let head = b"\x01\x00\x07\x00\x64\x01\x08\x00\x1E\x00\x00\x00\x00\x00\x01\x19";
-    let entries = joined(heap, head, b"T\x01\x01\x00\x00", 25, b"")?;
-    assert_eq!(rt;
-        refusal(read(entries.as_slice(), &mut sheet)),
-        Some((18, 138))
-    );
-    assert_eq!(rt; sheet.stays().len(), 0);
-    Ok(())
+// The first two stays have one step too few for a plan; the other image has 65586 bytes, and its first two say 48.
+fn no_plan_and_long<T: Axis, P: Axis>(
+    rt: &impl Abort,
+    heap: Global,
+    sheet: &mut Sheet<T, P>,
+) -> Result<(), Fail> {
+    let short = Parts {
+        head: b"\x01\x00\x06\x00\x64\x02",
+        part: &worked()[8..26],
+        times: 1,
+        tail: b"\x00",
+    };
+    prints_parts(rt, heap, sheet, &short, b"no plan\n")?;
+    let long = Parts {
+        head: b"",
+        part: &[0; 254],
+        times: 255,
+        tail: &[0; 814],
+    };
+    prints_parts(rt, heap, sheet, &long, b"fault 31 image 0\n")
 }
 
-// Lead and dwell are 65535 seconds each.
-#[test]
-fn sums_that_do_not_wrap(rt: HostRuntime) -> Result<(), Fail> {
-    let heap = rt.alloc();
-    let mut sheet = Sheet::new(heap, ListAxis::new(heap)?, ListAxis::new(heap)?)?;
-    let stay = b"\x08\x00\x1E\xFF\xFF\xFF\xFF\x00\x01";
-    let image = joined(heap, b"\x01\x00\x07\x00\x64\x01", stay, 1, b"\x00")?;
-    assert_eq!(rt; refusal(read(image.as_slice(), &mut sheet)), Some((14, 8)));
-    let window = b"\x0C\x00\x3C\x00\x00\x00\x00\x00\x01\xFF\xFF\x00\x01";
-    let late = joined(heap, b"\x01\x00\x07\x00\x64\x01", window, 1, b"\x00")?;
-    assert_eq!(rt; refusal(read(late.as_slice(), &mut sheet)), Some((16, 8)));
-    Ok(())
+// A plan, and a fault of each layer.
+fn plan_and_faults<T: Axis, P: Axis>(rt: &impl Abort, sheet: &mut Sheet<T, P>) -> Result<(), Fail> {
+    prints(rt, sheet, &worked(), b"plan 3\n1 0 0\n2 3 0\n3 0 60\n")?;
+    prints(rt, sheet, &worked()[0..9], b"fault 31 image 0\n")?;
+    prints(rt, sheet, &changed(38, 1), b"fault 16 sheet 26\n")?;
+    prints(rt, sheet, &changed(44, 0x80), b"fault 6 axis 40\n")
 }
 
-// A plan, no plan where the first two stays have one step too few, and a fault of each layer.
+fn all<T: Axis, P: Axis>(
+    rt: &impl Abort,
+    heap: Global,
+    sheet: &mut Sheet<T, P>,
+) -> Result<(), Fail> {
+    whole(rt, sheet);
+    one_byte_changed(rt, sheet);
+    cut_short(rt, sheet);
+    cut_short_with_its_length(rt, sheet);
+    too_many(rt, heap, sheet)?;
+    sums_do_not_wrap(rt, heap, sheet)?;
+    no_plan_and_long(rt, heap, sheet)?;
+    plan_and_faults(rt, sheet)
+}
+
 #[test]
-fn texts(rt: HostRuntime) -> Result<(), Fail> {
+fn time_on_a_matrix(rt: HostRuntime) -> Result<(), Fail> {
     let heap = rt.alloc();
     let mut sheet = Sheet::new(heap, MatrixAxis::new(heap)?, ListAxis::new(heap)?)?;
-    print(
-        &rt,
-        &mut sheet,
-        &worked(),
-        b"plan 3\n1 0 0\n2 3 0\n3 0 60\n",
-    )?;
-    let short = joined(
-        heap,
-        b"\x01\x00\x06\x00\x64\x02",
-        &worked()[8..26],
-        1,
-        b"\x00",
-    )?;
-    print(&rt, &mut sheet, short.as_slice(), b"no plan\n")?;
-    print(&rt, &mut sheet, &worked()[0..9], b"fault 31 image 0\n")?;
-    let long = joined(heap, b"", &[0; 254], 255, &[0; 814])?;
-    print(&rt, &mut sheet, long.as_slice(), b"fault 31 image 0\n")?;
-    print(&rt, &mut sheet, &changed(38, 1), b"fault 16 sheet 26\n")?;
-    print(&rt, &mut sheet, &changed(44, 0x80), b"fault 6 axis 40\n")
+    all(&rt, heap, &mut sheet)
+}
+
+#[test]
+fn time_on_a_list(rt: HostRuntime) -> Result<(), Fail> {
+    let heap = rt.alloc();
+    let mut sheet = Sheet::new(heap, ListAxis::new(heap)?, MatrixAxis::new(heap)?)?;
+    all(&rt, heap, &mut sheet)
 }
