@@ -8,7 +8,6 @@ mod manner;
 mod placements;
 mod plain;
 mod plans;
-mod random;
 mod rounds;
 mod sides;
 mod solver;

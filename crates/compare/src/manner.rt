@@ -1,5 +1,5 @@
 // What the sheets and the calls of a round are like.
-use crate::random::Random;
+use random::Random;
 
 #[derive(Clone, Copy)]
 pub struct Manner {

@@ -3,10 +3,10 @@ use crate::buffers::{PLACES, TRIALS};
 use crate::calls::Call;
 use crate::manner::Manner;
 use crate::plain::Shape;
-use crate::random::Random;
 use crate::stays::{fitting, spoiled};
 use axis::Bound;
 use journal::Stay;
+use random::Random;
 use std::alloc::{AllocError, Global};
 
 // Lengths at the limits and past them.

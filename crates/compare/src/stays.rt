@@ -1,7 +1,7 @@
 // The stays of a load: good ones, and spoiled ones.
 use crate::manner::Manner;
-use crate::random::Random;
 use journal::{Stay, Window};
+use random::Random;
 
 // From 1 to the most, which counts as 1 where it is 0.
 fn one_to(random: &mut Random, most: u16) -> u16 {

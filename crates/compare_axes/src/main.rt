@@ -4,7 +4,6 @@
 mod calls;
 mod manner;
 mod plain;
-mod random;
 mod ranges;
 mod rounds;
 mod shortest;

@@ -1,7 +1,7 @@
 // What the calls of a round are like.
 ghost use Rattle.std.specs.Prelude.{◌≤◌};
 
-use crate::random::Random;
+use random::Random;
 
 #[derive(Clone, Copy)]
 pub struct Manner {

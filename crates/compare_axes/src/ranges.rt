@@ -3,8 +3,8 @@ ghost use Rattle.std.specs.Prelude.{◌≡◌, length, IfOk, vec_len};
 
 use crate::calls::{Call, LINES};
 use crate::manner::Manner;
-use crate::random::Random;
 use axis::Range;
+use random::Random;
 use std::alloc::{AllocError, Global};
 
 const ZERO: Range = Range { low: 0, high: 0 };

@@ -1,9 +1,9 @@
 // The source of the calls: mostly good ones around a hidden placement, and some that must be refused.
 use crate::calls::{Call, LINES};
 use crate::manner::Manner;
-use crate::random::Random;
 use crate::ranges::{ranges_around, reset_to, spoiled_reset};
 use axis::{Bound, Range};
+use random::Random;
 use std::alloc::{AllocError, Global};
 
 // Lengths at the limits and past them.

@@ -1,5 +1,5 @@
 // Pseudo-random numbers, the same on every run.
-ghost use Rattle.std.specs.Prelude.{◌<◌};
+ghost use Rattle.std.specs.Prelude.{◌≤◌, ◌<◌};
 ghost use Rattle.std.specs.List.{ContainsAt};
 
 #[derive(Drop)]
@@ -26,12 +26,24 @@ impl Random {
     }
 
     // The upper bits are the better ones.
-    pub fn below(&mut self, n: u16) -> u16
-        requires { 0 < n }
-        ensures { result < n }
+    pub fn up_to(&mut self, most: u16) -> u16
+        ensures { result ≤ most }
     {
         let x = self.step() >> 32;
-        (x % u64::from(n)) as u16
+        (x % (u64::from(most) + 1)) as u16
+    }
+
+    // Less than the limit.
+    pub fn below(&mut self, limit: u16) -> u16
+        requires { 0 < limit }
+        ensures { result < limit }
+    {
+        self.up_to(limit - 1)
+    }
+
+    // So many times in a hundred.
+    pub fn chance(&mut self, percent: u16) -> bool {
+        self.up_to(99) < percent
     }
 
     // One of the items.

@@ -1,0 +1,6 @@
+// Pseudo-random numbers for the programs that compare.
+#![tactic(auto)]
+
+mod random;
+
+pub use random::Random;
