@@ -6,7 +6,7 @@ use matrix_axis::MatrixAxis;
 use sheet::Sheet;
 use std::io::{Read, Write};
 
-// One byte more than the longest image, so that what is longer is refused as it would be whole.
+// One byte more than the first two can count, so that what is longer is refused as it would be whole.
 const MOST: u64 = 65538;
 
 // Every text fits: the longest has twelve stays of at most thirteen bytes each, after its first line.
