@@ -15,8 +15,9 @@ use Rattle.reader.specs.Reads.{Accepted}
 use Rattle.journal.specs.Made.{Made}
 use Rattle.round_trip.specs.Tells.{Bytes}
 use Rattle.round_trip.proofs.Holds.{Holds, holds_then, holds_byte, holds_number}
-use Rattle.round_trip.proofs.Stays.{first_yes, later_yes, stays_hold, stays_count}
-use Rattle.round_trip.proofs.Entries.{Entries-read, entries_read, with_entries, unlocated}
+use Rattle.round_trip.proofs.Parts.{first_yes, later_yes, with_entries}
+use Rattle.round_trip.proofs.Stays.{stays_hold, stays_count}
+use Rattle.round_trip.proofs.Entries.{Entries-read, entries_read, unlocated}
 
 module _ (bytes : List ℕ) (fit : Bytes bytes) (a : Accepted bytes) where
   head : AllYes (image_asks bytes)
@@ -41,7 +42,7 @@ module _ (bytes : List ℕ) (fit : Bytes bytes) (a : Accepted bytes) where
   read = entries_read bytes fit count (loaded_in bytes) (end + 1) (first_yes (entries_ask bytes count (end + 1)) _ rest.1) a.1
 
   abbrev told : Journal
-  told = with_entries bytes fit (loaded_in bytes) read.entries
+  told = with_entries (loaded_in bytes) read.entries
 
   stays_stand : Holds bytes 7 (stays_bytes stays) end
   stays_stand = subst (λ (n : ℕ). Holds bytes 7 (n ∷ flat_map stay_bytes stays) end) (sym (stays_count bytes (byte_at bytes 7) 8)) (holds_then bytes 7 8 end (holds_byte bytes 7 head.1.1.1.1.0) (stays_hold bytes fit (byte_at bytes 7) 8 (first_yes (stays_ask bytes (byte_at bytes 7) 8) _ head.1.1.1.1.1)))

@@ -1,5 +1,5 @@
 -- What is written of entries is read as those entries.
-use Rattle.std.proofs.Common.{◌≡◌, ℕ, ◌+◌, ◌-◌, ◌<◌, ◌≤◌, cond, List, [], ◌∷◌, ◌++◌, length, flat_map, ℤ, pos, negsuc, ◌-ℤ◌, refl, sym, ap, ◌∙◌, subst, arith}
+use Rattle.std.proofs.Common.{◌≡◌, ℕ, ◌+◌, ◌-◌, ◌<◌, ◌≤◌, cond, List, [], ◌∷◌, length, flat_map, ℤ, pos, negsuc, ◌-ℤ◌, refl, sym, ap, ◌∙◌, subst, arith}
 use Rattle.std.proofs.lemmas.List.{append_assoc, append-nil}
 use Rattle.std.proofs.lemmas.Int.{ints}
 use Rattle.std.proofs.lemmas.Bool.{lt-ltb, le-ltb}
@@ -21,16 +21,8 @@ use Rattle.reader.specs.Located.{located}
 use Rattle.reader.specs.Reads.{binds_ask}
 use Rattle.reader.proofs.Locating.{located_yes}
 use Rattle.journal.specs.Made.{entries_asked}
+use Rattle.round_trip.proofs.Parts.{first_yes, later_yes, with_entries}
 use Rattle.round_trip.proofs.Starts.{Starts, starts_first, starts_later, byte_read, byte_room, number_read, number_room}
-
--- the first of two lists of a sheet's questions, and the second
-first_of : (qs more : SheetAsked) → AllYes (qs ++ more) → AllYes qs
-first_of [] more y = tt
-first_of (q ∷ qs) more y = (y.0, first_of qs more y.1)
-
-later_of : (qs more : SheetAsked) → AllYes (qs ++ more) → AllYes more
-later_of [] more y = y
-later_of (q ∷ qs) more y = later_of qs more y.1
 
 signed_small : (n : ℕ) → n < 32768 → signed n ≡ pos n
 signed_small n h = ap (λ b. cond b (pos n) (pos n -ℤ pos 65536)) (lt-ltb n 32768 h)
@@ -76,9 +68,6 @@ module _ (bytes : List ℕ) where
         told = rw (byte_read bytes o l _ h, byte_read bytes (o + 1) b.p (b.q ∷ n) second, byte_read bytes (o + 2) b.q n third, number, signed_complement b.d reach) refl;
       }
 
-  abbrev with_entries : Journal → List Entry → Journal
-  with_entries k es = record { span = k.span; platform = k.platform; stays = k.stays; entries = k.entries ++ es }
-
   pub record Entries-told (k : Journal) (o : ℕ) (es : List Entry) : Type 0 where
     pub fields : AllYes (entries_ask bytes (length es) o)
     pub yes : AllYes (binds_ask bytes k (length es) o)
@@ -88,11 +77,11 @@ module _ (bytes : List ℕ) where
   pub entries_told : (k : Journal) (o : ℕ) (es : List Entry) → AllYes (entries_asked k es) → Starts bytes o (flat_map entry_bytes es) → Entries-told k o es
   entries_told k o [] y h = record { fields = tt; yes = tt; told = ap (λ l. record { span = k.span; platform = k.platform; stays = k.stays; entries = l }) (sym (append-nil k.entries)); ends = omega arith }
   entries_told k o (e ∷ es) y h =
-      let here = first_of (entry_asks k e) _ y in
+      let here = first_yes (entry_asks k e) _ y in
       let first = entry_told o e here.1.1.0 (starts_first bytes o (entry_bytes e) (flat_map entry_bytes es) h) in
       let same : asks k (bind_at bytes o) ≡ entry_asks k e = ap (asks k) first.told ∙ asks_by k e.direction e.bound in
       let onward : next k (bind_at bytes o) ≡ with_entry k e = ap (next k) first.told ∙ next_by k e.direction e.bound in
-      let rest = entries_told (with_entry k e) (after_entry o) es (later_of (entry_asks k e) _ y) (starts_later bytes o (entry_bytes e) (flat_map entry_bytes es) h) in
+      let rest = entries_told (with_entry k e) (after_entry o) es (later_yes (entry_asks k e) _ y) (starts_later bytes o (entry_bytes e) (flat_map entry_bytes es) h) in
       record {
         fields = all_yes_append (fields_asks bytes o) (entries_ask bytes (length es) (after_entry o)) first.yes rest.fields;
         yes = all_yes_append (located (λ f. o) (asks k (bind_at bytes o))) (binds_ask bytes (next k (bind_at bytes o)) (length es) (after_entry o))

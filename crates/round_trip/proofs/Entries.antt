@@ -1,5 +1,5 @@
 -- The bytes of entries that were bound are those that are written of them.
-use Rattle.std.proofs.Common.{◌≡◌, ℕ, zero, suc, ◌+◌, ◌-◌, ◌<◌, Bool, true, false, cond, ltb, ◌==◌, List, [], ◌∷◌, ◌++◌, length, flat_map, pos, negsuc, ◌-ℤ◌, Some, None, Option, refl, sym, ap, ◌∙◌, subst, arith}
+use Rattle.std.proofs.Common.{◌≡◌, ℕ, zero, suc, ◌+◌, ◌-◌, ◌<◌, Bool, true, false, cond, ltb, ◌==◌, List, [], ◌∷◌, length, flat_map, pos, negsuc, ◌-ℤ◌, Some, None, Option, refl, sym, ap, ◌∙◌, subst, arith}
 use Rattle.std.proofs.lemmas.List.{append_assoc, append-nil}
 use Rattle.std.proofs.lemmas.Int.{ints}
 use Rattle.std.proofs.lemmas.Bool.{eqb-true}
@@ -22,7 +22,7 @@ use Rattle.reader.specs.Reads.{binds_ask}
 use Rattle.journal.specs.Made.{entries_asked}
 use Rattle.round_trip.specs.Tells.{Bytes}
 use Rattle.round_trip.proofs.Holds.{Holds, holds_then, holds_byte, holds_number}
-use Rattle.round_trip.proofs.Stays.{first_yes, later_yes}
+use Rattle.round_trip.proofs.Parts.{first_yes, later_yes, with_entries}
 
 pub unlocated : (place : SheetFault → ℕ) (qs : SheetAsked) → AllYes (located place qs) → AllYes qs
 unlocated place [] y = tt
@@ -102,10 +102,6 @@ module _ (bytes : List ℕ) (fit : Bytes bytes) where
         next = b.next;
         holds = subst (λ (x : List ℕ). Holds bytes o x (after_entry o)) (sym same) (five o y);
       }
-
-  -- entries more, the last of them the newest
-  abbrev pub with_entries : Journal → List Entry → Journal
-  with_entries k es = record { span = k.span; platform = k.platform; stays = k.stays; entries = k.entries ++ es }
 
   pub record Entries-read (k after : Journal) (n o p : ℕ) : Type 0 where
     pub entries : List Entry

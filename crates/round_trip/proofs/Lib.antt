@@ -3,6 +3,7 @@ pub mod Bound
 pub mod Copied
 pub mod Entries
 pub mod Holds
+pub mod Parts
 pub mod Starts
 pub mod Stays
 pub mod Written

@@ -1,22 +1,14 @@
 -- The bytes of a stay that was read are those that are written of it.
-use Rattle.std.proofs.Common.{◌≡◌, ◌⊎◌, ℕ, zero, suc, ◌+◌, ◌*◌, ◌-◌, ◌/◌, ◌≤◌, List, [], ◌∷◌, ◌++◌, length, flat_map, drop, inl, inr, refl, sym, ap, ◌∙◌, subst, arith}
+use Rattle.std.proofs.Common.{◌≡◌, ◌⊎◌, ℕ, zero, suc, ◌+◌, ◌*◌, ◌-◌, ◌/◌, ◌≤◌, List, ◌∷◌, ◌++◌, length, flat_map, drop, inl, inr, refl, sym, ap, ◌∙◌, subst, arith}
 use Rattle.std.proofs.Math.ListN.{drop_of_length-le}
 use Rattle.std.proofs.lemmas.List.{append-nil, length-take-le, length-drop}
 use Rattle.axis.specs.Questions.{AllYes}
 use Rattle.image.specs.Bytes.{stay_bytes, stay_fields}
-use Rattle.walk.specs.Fields.{Asked, byte_at, after_stay, stay_asks, stays_ask, row_end, numbers_ask}
+use Rattle.walk.specs.Fields.{byte_at, after_stay, stay_asks, stays_ask, row_end, numbers_ask}
 use Rattle.walk.specs.Stays.{part_at, stay_in, stays_at}
 use Rattle.round_trip.specs.Tells.{Bytes}
+use Rattle.round_trip.proofs.Parts.{first_yes, later_yes}
 use Rattle.round_trip.proofs.Holds.{Holds, holds_then, holds_byte, holds_part, holds_number, drop_bytes, take_bytes}
-
--- the first of two lists of questions, and the second
-pub first_yes : (qs more : Asked) → AllYes (qs ++ more) → AllYes qs
-first_yes [] more y = tt
-first_yes (q ∷ qs) more y = (y.0, first_yes qs more y.1)
-
-pub later_yes : (qs more : Asked) → AllYes (qs ++ more) → AllYes more
-later_yes [] more y = y
-later_yes (q ∷ qs) more y = later_yes qs more y.1
 
 module _ (part : List ℕ) (fit : Bytes part) where
   all_of : (n : ℕ) (x : List ℕ) → length part ≤ n → Holds part 0 x n → x ≡ part
