@@ -24,7 +24,9 @@ pub fn write<T: Axis, P: Axis>(sheet: &Sheet<T, P>, buffer: &mut [u8]) -> Result
         offset: 0,
         cause: Cause::Buffer,
     };
-    page::fill(buffer, fault, |page| put_image(page, len, &body))
+    // counted already: the two bytes of the length, and those that it counts
+    let needed = 2 + usize::from(len);
+    page::fill_counted(buffer, needed, fault, |page| put_image(page, len, &body))
 }
 
 // The body's length stands before it.

@@ -65,6 +65,19 @@ pub fn fill<E: Copy, F: Fn(&mut Page<'_>)>(buffer: &mut [u8], why: E, write: F) 
     ensures { (told : List ℕ) → Puts F.Fn write told → FillsOr why told buffer.old buffer.new result }
 {
     let needed = count(&write);
+    fill_counted(buffer, needed, why, write)
+}
+
+// The same of a call whose bytes are counted already.
+pub fn fill_counted<E: Copy, F: Fn(&mut Page<'_>)>(
+    buffer: &mut [u8],
+    needed: usize,
+    why: E,
+    write: F,
+) -> Result<usize, E>
+    requires { F.IsAlwaysCallable write }
+    ensures { (told : List ℕ) → Puts F.Fn write told → needed ≡ min (length told) most → FillsOr why told buffer.old buffer.new result }
+{
     if needed > buffer.len() {
         return Err(why);
     }
