@@ -1,4 +1,3 @@
-mod Made
 mod Totals
 mod Told
 mod Steps

@@ -5,7 +5,6 @@ ghost use Rattle.ledger.specs.Means.{Standing};
 ghost use Rattle.list_axis.specs.Rows.{Found, Complete};
 
 use ledger::Ledger;
-use std::array;
 
 // The way to line j found so far has the length at place j. Kept an array of thirteen: a row needs no memory, and is read to the last line.
 #[derive(Drop)]
@@ -37,7 +36,10 @@ fn ways_over_zero(ledger: &Ledger, start: usize) -> [i16; 13]
     requires line { start ≤ lines ledger.now }
     ensures { Found ledger.now start result }
 {
-    let n = ledger.lines();
+    let mut row = [0; 13];
     // what stands past the last line is never read
-    array::from_fn(|line| ledger.direct(start, line.min(n)))
+    for (line, way) in row[..=ledger.lines()].iter_mut().enumerate() {
+        *way = ledger.direct(start, line);
+    }
+    row
 }
