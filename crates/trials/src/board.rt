@@ -1,22 +1,15 @@
 // The board of a descent, and what is done with one word for one pair: judged, its bound put with the trial noted, and taken back.
-ghost use Rattle.std.specs.Prelude.{◌≡◌, ℕ, ◌<◌, true, length, Some, slice_index_or};
-ghost use Rattle.stack.specs.declared.elements.Word.TheVariants.{Before};
+ghost use Rattle.std.specs.Prelude.{◌≡◌, ◌<◌, true, length, slice_index_or};
 ghost use Rattle.boxes.specs.Order.{no_trial};
-ghost use Rattle.trials.specs.Trials.{Node, PickedBelow, ToldWord, entry_of, nth_word};
+ghost use Rattle.trials.specs.Trials.{Node, PickedBelow, ToldWord, entry_of};
 ghost use Rattle.trials.specs.Boards.{BackedUp, NoWords, Entered, Fits, ImpliedAt, OnLoan, Open, Placed, Ready, Reopened};
 
-use crate::picker::rank_of;
+use crate::picker::pick;
+use crate::trying::{implied, weigh};
 use axis::Axis;
-use boxes::{Direction, Entry, Place, Size, lay_out, ruling};
+use boxes::{Direction, Entry, Place, Size, lay_out};
 use moves::{Axes, Standing};
 use stack::{Stack, StackFault, Trial, Word};
-
-// The words in the order in which they are tried.
-pub fn words() -> [Word; 4]
-    ensures { (n : ℕ) → n < 4 → slice_index_or result n Before ≡ nth_word n }
-{
-    [Word::Before, Word::After, Word::Nearer, Word::Farther]
-}
 
 // Boxes of these sizes on two axes, their trials, and the trials that got a word so far, the newest last.
 // The trail is lent like the rest: of a board that owns it, what its lenders have afterwards was not proved.
@@ -69,12 +62,12 @@ impl<'a, 't, T: Axis, P: Axis> Board<'a, 't, T, P> {
     pub fn pick(&self) -> Option<usize>
         ensures { PickedBelow (length self.now.trials.now) self.now.trials.now result }
     {
-        self.trials
-            .iter()
-            .enumerate()
-            .filter(|(_, trial)| trial.word.is_none())
-            .min_by_key(|(_, trial)| rank_of(self.axes, self.sizes, **trial))
-            .map(|(k, _)| k)
+        pick(
+            self.axes.time(),
+            self.axes.platform(),
+            self.sizes,
+            self.trials,
+        )
     }
 
     // Takes back the newest trial and its bound.
@@ -94,9 +87,14 @@ impl<'a, 't, T: Axis, P: Axis> Board<'a, 't, T, P> {
         ensures entry { result.0 ≡ entry_of self.now.sizes.now self.now.trials.now k word }
         ensures told { ToldWord self.now.axes.now self.now.sizes.now (slice_index_or self.now.trials.now k no_trial).i (slice_index_or self.now.trials.now k no_trial).j word result.1 }
     {
-        let pair = self.trials[k];
-        let entry = ruling(self.sizes, pair.i, pair.j, word);
-        (entry, self.axes.judge(entry))
+        weigh(
+            self.axes.time(),
+            self.axes.platform(),
+            self.sizes,
+            self.trials,
+            k,
+            word,
+        )
     }
 
     // Puts the bound of the word for trial k and notes the trial, or tells that no arrangement has the word.
@@ -129,12 +127,13 @@ impl<'a, 't, T: Axis, P: Axis> Board<'a, 't, T, P> {
         requires within { k < length self.now.trials.now }
         ensures { ImpliedAt self.now k result }
     {
-        for word in words() {
-            if self.weigh(k, word).1 == Standing::Implied {
-                return Some(word);
-            }
-        }
-        None
+        implied(
+            self.axes.time(),
+            self.axes.platform(),
+            self.sizes,
+            self.trials,
+            k,
+        )
     }
 
     // Trial k has no word again.
