@@ -5,9 +5,9 @@ ghost use Rattle.trials.specs.Trials.{Node, PickedBelow, ToldWord, entry_of};
 ghost use Rattle.trials.specs.Boards.{BackedUp, NoWords, Entered, Fits, ImpliedAt, OnLoan, Open, Placed, Ready, Reopened};
 
 use crate::picker::pick;
-use crate::trying::{implied, weigh};
+use crate::trying::{implied, newest_off, note, weigh};
 use axis::Axis;
-use boxes::{Direction, Entry, Place, Size, lay_out};
+use boxes::{Entry, Place, Size, lay_out};
 use moves::{Axes, Standing};
 use stack::{Stack, StackFault, Trial, Word};
 
@@ -74,8 +74,7 @@ impl<'a, 't, T: Axis, P: Axis> Board<'a, 't, T, P> {
     pub fn back_up(&mut self) -> Result<(), StackFault>
         ensures { BackedUp self.old self.new result }
     {
-        let trial = self.trail.pop()?;
-        let side = trial.word.map_or(Direction::Time, Direction::from);
+        let side = newest_off(self.trail)?;
         let _ = self.axes.back(side);
         Ok(())
     }
@@ -112,12 +111,7 @@ impl<'a, 't, T: Axis, P: Axis> Board<'a, 't, T, P> {
         if let Err(_) = self.axes.put(entry) {
             return false;
         }
-        let trial = Trial {
-            word: Some(word),
-            ..self.trials[k]
-        };
-        let _ = self.trail.push(trial);
-        self.trials[k] = trial;
+        note(self.trials, self.trail, k, word);
         true
     }
 

@@ -7,4 +7,4 @@ mod trying;
 
 pub use board::Board;
 pub use picker::pick;
-pub use trying::{implied, word_at, words};
+pub use trying::{back_up, enter, implied, word_at, words};
