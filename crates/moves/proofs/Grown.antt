@@ -15,25 +15,25 @@ use Rattle.moves.specs.declared.moves.Standing.TheVariants.{Implied, Impossible}
 use Rattle.moves.specs.Meanings.{Meanings, along, grown}
 use Rattle.moves.specs.Moves.{PutOn, BackOn, KeptBy, Told}
 
-placed_more : (m : Meaning) (b : Bound) (v : ℕ → ℤ) → Placement m v → KeptBy b v → Placement (with_bound m b) v
+pub placed_more : (m : Meaning) (b : Bound) (v : ℕ → ℤ) → Placement m v → KeptBy b v → Placement (with_bound m b) v
 placed_more m b v p k = record {
   above = p.above;
   below = p.below;
   keeps = λ c h. elim (has_push_cases m.bounds b c h) [ inl x ↦ p.keeps c x | inr e ↦ subst (λ c. KeptBy c v) e k ];
 }
 
-placed_less : (m : Meaning) (b : Bound) (v : ℕ → ℤ) → Placement (with_bound m b) v → Placement m v
+pub placed_less : (m : Meaning) (b : Bound) (v : ℕ → ℤ) → Placement (with_bound m b) v → Placement m v
 placed_less m b v p = record { above = p.above; below = p.below; keeps = λ c h. p.keeps c (has_append_left m.bounds (b ∷ []) c h) }
 
 -- the last question is the only one that can be answered no
-put_none : (most : ℕ) (m : Meaning) (b : Bound) (f : AxisFault) → AllYes (first_asks most m b) → FirstNo (put_asks most m b) f → ¬ (Remains (with_bound m b))
+pub put_none : (most : ℕ) (m : Meaning) (b : Bound) (f : AxisFault) → AllYes (first_asks most m b) → FirstNo (put_asks most m b) f → ¬ (Remains (with_bound m b))
 put_none most m b f y (inl n) = absurd (n.0 y.0)
 put_none most m b f y (inr (_, inl n)) = absurd (n.0 y.1.0)
 put_none most m b f y (inr (_, inr (_, inl n))) = absurd (n.0 y.1.1.0)
 put_none most m b f y (inr (_, inr (_, inr (_, inl n)))) = n.0
 put_none most m b f y (inr (_, inr (_, inr (_, inr n)))) = absurd n.1
 
-undone : (m k after : Meaning) (b : Bound) (r : Result Unit AxisFault) → k ≡ with_bound m b → Back k r after → after ≡ m
+pub undone : (m k after : Meaning) (b : Bound) (r : Result Unit AxisFault) → k ≡ with_bound m b → Back k r after → after ≡ m
 undone m k after b (Ok u) e (c, h) =
     let z : with_bound after c ≡ with_bound m b = sym h ∙ e in
     let l : after.lows ≡ m.lows = ap (λ (x : Meaning). x.lows) z in

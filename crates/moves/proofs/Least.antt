@@ -43,7 +43,7 @@ module _ (m : Meanings) (ps : List Place) (k : ℕ) (p : Place) where
   }
 
 -- the numbers of all places
-places_earliest : (most : ℕ) (m : Meaning) → Valid most m → (f : Place → ℤ) (ps : List Place) → lines m ≡ length ps → ((k : ℕ) → k < length ps → EarliestValue m (k + 1) (f (get_or ps k nowhere))) → Earliest m (at_line (map f ps))
+pub places_earliest : (most : ℕ) (m : Meaning) → Valid most m → (f : Place → ℤ) (ps : List Place) → lines m ≡ length ps → ((k : ℕ) → k < length ps → EarliestValue m (k + 1) (f (get_or ps k nowhere))) → Earliest m (at_line (map f ps))
 places_earliest most m valid f ps size each =
     values_earliest most m valid (map f ps) (size ∙ sym (length-map ps f))
     (λ k h. let l : k < length ps = omega (arith, length-map ps f) in subst (EarliestValue m (k + 1)) (sym (get_or-map f ps k nowhere (pos 0) l)) (each k l))

@@ -8,6 +8,10 @@ pub record Meanings : Type 0 where
   pub time : Meaning
   pub platform : Meaning
 
+-- two axes that lie apart
+abbrev pub together : Meaning → Meaning → Meanings
+together t p = record { time = t; platform = p }
+
 -- the axis of that direction
 abbrev pub along : Direction → Meanings → Meaning
 along d m = in_direction m.time m.platform d

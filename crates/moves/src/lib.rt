@@ -3,5 +3,7 @@
 
 mod moves;
 mod places;
+mod sides;
 
 pub use moves::{Axes, Standing};
+pub use sides::{back_on, judge_on, place_all, put_on, reach};

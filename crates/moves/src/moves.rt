@@ -6,8 +6,8 @@ ghost use Rattle.boxes.specs.Arranged.{step_of, metre_of};
 ghost use Rattle.moves.specs.Meanings.{along};
 ghost use Rattle.moves.specs.Moves.{ResetOn, PutOn, BackOn, Told};
 
-use crate::places::place_of;
-use axis::{Axis, AxisFault, Bound};
+use crate::sides::{back_on, judge_on, place_all, put_on, reach};
+use axis::{Axis, AxisFault};
 use boxes::{Direction, Entry, Place};
 use std::marker::Model;
 
@@ -42,6 +42,18 @@ impl<T: Axis, P: Axis> Axes<T, P> {
         Axes { time, platform }
     }
 
+    pub fn time(&self) -> &T
+        ensures { T.means result.now ≡ self.now.time }
+    {
+        &self.time
+    }
+
+    pub fn platform(&self) -> &P
+        ensures { P.means result.now ≡ self.now.platform }
+    {
+        &self.platform
+    }
+
     // New lines on the axis of that direction, and no bounds on it.
     pub fn reset(
         &mut self,
@@ -60,19 +72,13 @@ impl<T: Axis, P: Axis> Axes<T, P> {
     pub fn put(&mut self, entry: Entry) -> Result<(), AxisFault>
         ensures { PutOn entry.direction T.Axis.MOST P.Axis.MOST self.old entry.bound result self.new }
     {
-        match entry.direction {
-            Direction::Time => self.time.put(entry.bound),
-            Direction::Platform => self.platform.put(entry.bound),
-        }
+        put_on(&mut self.time, &mut self.platform, entry)
     }
 
     pub fn back(&mut self, direction: Direction) -> Result<(), AxisFault>
         ensures { BackOn direction self.old result self.new }
     {
-        match direction {
-            Direction::Time => self.time.back(),
-            Direction::Platform => self.platform.back(),
-        }
+        back_on(&mut self.time, &mut self.platform, direction)
     }
 
     pub fn tightest(&self, direction: Direction, p: u8, q: u8) -> Result<i16, AxisFault>
@@ -88,23 +94,17 @@ impl<T: Axis, P: Axis> Axes<T, P> {
     pub fn reach(&self, direction: Direction, p: u8, q: u8) -> i16
         ensures { Named (lines (along direction self.now)) p q → Largest (along direction self.now) p q result }
     {
-        self.tightest(direction, p, q).unwrap_or(0)
+        match direction {
+            Direction::Time => reach(&self.time, p, q),
+            Direction::Platform => reach(&self.platform, p, q),
+        }
     }
 
     pub fn judge(&self, entry: Entry) -> Standing
         requires { Within (lines (along entry.direction self.now)) entry.bound }
         ensures { Told (along entry.direction self.now) entry.bound result }
     {
-        let bound = entry.bound;
-        // the largest the other way round: if it is less than -d, no placement keeps the bound
-        if self.reach(entry.direction, bound.q, bound.p) < -bound.d {
-            return Standing::Impossible;
-        }
-        // if it is at most d, every placement keeps the bound
-        if self.reach(entry.direction, bound.p, bound.q) <= bound.d {
-            return Standing::Implied;
-        }
-        Standing::Possible
+        judge_on(&self.time, &self.platform, entry)
     }
 
     // How many bounds stand on the axis of that direction.
@@ -144,8 +144,6 @@ impl<T: Axis, P: Axis> Axes<T, P> {
         ensures timely { Earliest self.now.time (step_of places.new) }
         ensures nearest { Earliest self.now.platform (metre_of places.new) }
     {
-        for (k, place) in places.iter_mut().enumerate() {
-            *place = place_of(&self.time, &self.platform, k as u8 + 1);
-        }
+        place_all(&self.time, &self.platform, places);
     }
 }

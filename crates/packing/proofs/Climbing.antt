@@ -1,20 +1,17 @@
 -- From the board below back up to the board where the word was put.
-use Rattle.std.proofs.Common.{◌≡◌, ◌∙◌, ℕ, ◌+◌, ◌<◌, Bool, true, false, List, [], ◌∷◌, ◌++◌, length, get_or, Some, Ok, Err, Result, sym, refl, ap, subst, arith, below_more}
-use Rattle.std.proofs.lemmas.List.{get_or_default, length_push, same_from_push}
+use Rattle.std.proofs.Common.{◌≡◌, ◌∙◌, ℕ, ◌+◌, ◌<◌, Bool, true, false, List, length, get_or, Some, Ok, Err, Result, sym, refl, subst, arith, below_more}
+use Rattle.std.proofs.lemmas.List.{get_or_default}
 use Rattle.stack.specs.declared.elements.Word.{Word}
 use Rattle.stack.specs.declared.elements.Word.TheVariants.{Before}
 use Rattle.stack.specs.declared.elements.Trial.{Trial}
 use Rattle.stack.specs.declared.fault.StackFault.{StackFault}
 use Rattle.stack.specs.Stacks.{contents}
-use Rattle.boxes.specs.declared.model.Entry.{Entry}
 use Rattle.boxes.specs.declared.model.Place.{Place}
-use Rattle.boxes.proofs.Lie.{ruled_side}
 use Rattle.moves.specs.Meanings.{Meanings}
-use Rattle.moves.specs.Moves.{BackOn}
-use Rattle.moves.proofs.Grown.{back_grown}
 use Rattle.trials.specs.declared.board.Board.{Board}
-use Rattle.trials.specs.Trials.{nth_word, noted_side, worded, entry_of}
+use Rattle.trials.specs.Trials.{nth_word}
 use Rattle.trials.specs.Boards.{Open, RefutedAt, ImpliedAt, Ready, Becomes, Unchanged, Below, NewestGone, BackedUp, Reopened}
+use Rattle.trials.proofs.Nodes.{backed}
 use Rattle.packing.specs.Descent.{Reached, Unarranged, Reaches, Explored}
 use Rattle.packing.proofs.Above.{none_up, set_back, reached_up}
 
@@ -33,20 +30,11 @@ module _ {T P : Type 0} where
 
   -- b, and b₁ with the word put
   module _ (ht hp : ℕ) (b : Board T P) (ready : Ready ht hp b) (k : ℕ) (open_at : Open b k) (w : Word) (b₁ : Board T P) (below : Below ht hp k w b b₁) where
-    abbrev entry : Entry
-    entry = entry_of b.sizes.now b.trials.now k w
-
     -- the newest record is that of the word, so its bound is the one that goes
     gone : (b₂ b₃ : Board T P) (r : Result Unit StackFault) → b₂.axes.now ≡ b₁.axes.now → contents b₂.trail.now ≡ contents b₁.trail.now → NewestGone b₂ b₃ r
         → (b₃.axes.now ≡ b.axes.now) × (contents b₃.trail.now ≡ contents b.trail.now)
-    gone b₂ b₃ (Ok u) axes trail (x, (items, (r, back))) =
-        let top = same_from_push (contents b₃.trail.now) (contents b.trail.now) x (worded b.trials.now k w) (sym items ∙ trail ∙ below.put.trail) in
-        let side : noted_side x.word ≡ entry.direction = ap (λ (t : Trial). noted_side t.word) top.1 ∙ ruled_side b.sizes.now _ _ w in
-        (back_grown b.axes.now entry.bound entry.direction b₂.axes.now b₃.axes.now r (axes ∙ below.put.axes) (subst (λ d. BackOn d b₂.axes.now r b₃.axes.now) side back), top.0)
-    gone b₂ b₃ (Err f) axes trail none =
-        let n = length_push (contents b.trail.now) (worded b.trials.now k w) in
-        let z : length (contents b.trail.now ++ worded b.trials.now k w ∷ []) ≡ 0 = ap length (sym (trail ∙ below.put.trail) ∙ none) in
-        absurd (omega arith)
+    gone b₂ b₃ (Ok u) axes trail newest = backed b.axes.now b.sizes.now b.trials.now ready.node k open_at.0 w _ _ _ _ _ (axes ∙ below.put.axes) (trail ∙ below.put.trail) true newest
+    gone b₂ b₃ (Err f) axes trail none = backed b.axes.now b.sizes.now b.trials.now ready.node k open_at.0 w _ _ (contents b₃.trail.now) _ _ (axes ∙ below.put.axes) (trail ∙ below.put.trail) false none
 
     -- b₂ has the axes and the trail of b₁, and b₃ is backed up
     up : (b₂ b₃ : Board T P) (m : Meanings) (ts us : List Trial) (ps qs : List Place) (noted : List Trial) (r : Result Unit StackFault) → Becomes b₁ b₂ m ts ps noted → m ≡ b₁.axes.now → noted ≡ contents b₁.trail.now → BackedUp b₂ b₃ r

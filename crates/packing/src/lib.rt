@@ -4,5 +4,5 @@
 mod descent;
 mod packs;
 
-pub use moves::{Axes, Standing};
+pub use moves::{Axes, Standing, back_on, put_on};
 pub use packs::{NoArrangement, pack};

@@ -1,7 +1,7 @@
 -- A node and the one below it: a word more stands, and it can be taken back.
-use Rattle.std.proofs.Common.{◌≡◌, ℕ, zero, suc, ◌+◌, ◌<◌, ◌≤◌, List, [], ◌∷◌, map, length, get_or, set, ℤ, Some, None, Ok, Err, Option, Result, sym, refl, ap, ◌∙◌, subst, arith}
+use Rattle.std.proofs.Common.{◌≡◌, ℕ, zero, suc, ◌+◌, ◌<◌, ◌≤◌, Bool, true, false, List, [], ◌∷◌, ◌++◌, map, length, get_or, set, ℤ, Some, None, Ok, Err, Option, Result, sym, refl, ap, ◌∙◌, subst, arith}
 use Rattle.std.specs.List.{ContainsAt}
-use Rattle.std.proofs.lemmas.List.{length-map, get_or-map, set-get_or, map-set}
+use Rattle.std.proofs.lemmas.List.{length-map, get_or-map, set-get_or, map-set, length_push, same_from_push}
 use Rattle.std.proofs.ByRecursion.{has_get_or, has_push, has_append_left, All-set, All-weaker}
 use Rattle.stack.specs.declared.elements.Word.{Word}
 use Rattle.stack.specs.declared.elements.Trial.{Trial}
@@ -15,14 +15,14 @@ use Rattle.boxes.specs.declared.model.Direction.{Direction}
 use Rattle.boxes.specs.declared.model.Direction.TheVariants.{Time, Platform}
 use Rattle.boxes.specs.Overlaps.{ruled, HoldsWord, Keeps}
 use Rattle.boxes.specs.Order.{pair_of, no_trial}
-use Rattle.boxes.proofs.Lie.{word_keeps, keeps_word, ruled_named, ruled_near}
+use Rattle.boxes.proofs.Lie.{word_keeps, keeps_word, ruled_named, ruled_near, ruled_side}
 use Rattle.boxes.proofs.Ordered.{order_within}
 use Rattle.moves.specs.Meanings.{Meanings, along, grown}
 use Rattle.moves.specs.declared.moves.Standing.TheVariants.{Implied, Possible, Impossible}
 use Rattle.moves.specs.declared.moves.Standing.{Standing}
-use Rattle.moves.specs.Moves.{PutOn, Told}
-use Rattle.moves.proofs.Grown.{put_refutes, put_grows, told_refutes, told_kept, grown_lines, grown_length}
-use Rattle.trials.specs.Trials.{open_one, open_count, StandsWord, Stands, Node, Room, Refuted, ToldWord, worded, entry_of}
+use Rattle.moves.specs.Moves.{PutOn, BackOn, Told}
+use Rattle.moves.proofs.Grown.{put_refutes, put_grows, told_refutes, told_kept, back_grown, grown_lines, grown_length}
+use Rattle.trials.specs.Trials.{open_one, open_count, StandsWord, Stands, Node, Room, Refuted, ToldWord, noted_side, TakenBack, WordPut, worded, entry_of}
 
 -- one trial has its word
 open_set : (ts : List Trial) (k : ℕ) (x : Trial) (w : Word) → k < length ts → (get_or ts k no_trial).word ≡ None → x.word ≡ Some w → open_count (set ts k x) + 1 ≡ open_count ts
@@ -34,6 +34,13 @@ pub open_some : (ts : List Trial) (k : ℕ) → k < length ts → (get_or ts k n
 open_some [] k h o = absurd (omega arith)
 open_some (t ∷ ts) zero h o = let b : open_one t.word ≡ 1 = ap open_one o in omega arith
 open_some (t ∷ ts) (suc k) h o = let a = open_some ts k (omega arith) o in omega arith
+
+-- there is room for one word more
+pub spaces : (ht hp : ℕ) (m : Meanings) (used space : ℕ) (ts : List Trial) (k : ℕ) → Room ht hp m used space ts → (k < length ts) × ((get_or ts k no_trial).word ≡ None)
+    → (length m.time.bounds < ht) × (length m.platform.bounds < hp) × (used < space)
+spaces ht hp m used space ts k r open_at =
+    let some = open_some ts k open_at.0 open_at.1 in
+    (omega (arith, r.in_time), omega (arith, r.on_platform), omega (arith, r.on_trail))
 
 module _ (m : Meanings) (sizes : List Size) (ts : List Trial) (node : Node m sizes ts) (k : ℕ) (h : k < length ts) where
   pub in_trial_order : (1 ≤ (get_or ts k no_trial).i) × ((get_or ts k no_trial).i < (get_or ts k no_trial).j) × ((get_or ts k no_trial).j ≤ length sizes)
@@ -123,3 +130,30 @@ module _ (m : Meanings) (sizes : List Size) (ts : List Trial) (node : Node m siz
           on_platform = let a = r.on_platform in omega (arith, g.1);
           on_trail = let a = r.on_trail in omega arith;
         }
+
+    -- all that holds below
+    pub entered : (get_or ts k no_trial).word ≡ None → (ht hp : ℕ) (ts' : List Trial) (m' : Meanings) (trail trail' : List Trial) (space space' : ℕ) → Room ht hp m (length trail) space ts
+        → m' ≡ grown m (entry_of sizes ts k w) → ts' ≡ set ts k (worded ts k w) → trail' ≡ trail ++ worded ts k w ∷ [] → space' ≡ space
+        → WordPut ht hp sizes ts ts' k w m m' trail trail' space'
+    entered o ht hp ts' m' trail trail' space space' r grows tried noted same = record {
+      axes = grows;
+      tried = tried;
+      noted = noted;
+      node = rw (grows, tried) node_below;
+      room =
+          let used : length trail' ≡ length trail + 1 = ap length noted ∙ length_push trail (worded ts k w) in
+          rw (grows, tried, used, same) (room_below ht hp (length trail) space o r);
+      falls = ap (λ xs. open_count xs + 1) tried ∙ open_falls o;
+    }
+
+    -- backing up from below
+    pub backed : (trail below above : List Trial) (m₁ m' : Meanings) → m₁ ≡ grown m (entry_of sizes ts k w) → below ≡ trail ++ worded ts k w ∷ []
+        → (r : Bool) → TakenBack below above m₁ m' r → (m' ≡ m) × (above ≡ trail)
+    backed trail below above m₁ m' grows noted true (x, (items, (r, back))) =
+        let top = same_from_push above trail x (worded ts k w) (sym items ∙ noted) in
+        let side : noted_side x.word ≡ entry.direction = ap (λ (t : Trial). noted_side t.word) top.1 ∙ ruled_side sizes _ _ w in
+        (back_grown m entry.bound entry.direction m₁ m' r grows (subst (λ d. BackOn d m₁ r m') side back), top.0)
+    backed trail below above m₁ m' grows noted false none =
+        let n = length_push trail (worded ts k w) in
+        let z : length (trail ++ worded ts k w ∷ []) ≡ 0 = ap length (sym noted ∙ none) in
+        absurd (omega arith)

@@ -1,15 +1,18 @@
--- Trials on two axes, some of which have their words: what holds of them, and what is known of one word more.
-use Rattle.std.specs.Prelude.{◌≡◌, ℕ, zero, suc, ◌+◌, ◌<◌, ◌≤◌, true, List, [], ◌∷◌, map, length, ℤ, is_some, Some, None, Option, slice_index_or}
+-- Trials on two axes, some of which have their words: what holds of them, what is known of one word more, and what it does.
+use Rattle.std.specs.Prelude.{◌≡◌, ℕ, zero, suc, ◌+◌, ◌<◌, ◌≤◌, Bool, true, false, List, [], ◌∷◌, ◌++◌, map, length, ℤ, is_some, Some, None, Ok, Err, Option, Result, slice_index_or, slice_set}
 use Rattle.std.specs.List.{ContainsAt, AllByRecursion}
 use Rattle.stack.specs.declared.elements.Word.{Word}
 use Rattle.stack.specs.declared.elements.Word.TheVariants.{Before, After, Nearer, Farther}
 use Rattle.stack.specs.declared.elements.Trial.{Trial}
+use Rattle.stack.specs.declared.fault.StackFault.{StackFault}
+use Rattle.axis.specs.declared.model.AxisFault.{AxisFault}
 use Rattle.axis.specs.Meaning.{lines, Placement}
 use Rattle.boxes.specs.declared.model.Size.{Size}
 use Rattle.boxes.specs.declared.model.Entry.{Entry}
 use Rattle.boxes.specs.declared.model.Direction.{Direction}
 use Rattle.boxes.specs.declared.model.Direction.TheVariants.{Time}
-use Rattle.moves.specs.Meanings.{Meanings, along}
+use Rattle.moves.specs.Meanings.{Meanings, along, grown}
+use Rattle.moves.specs.Moves.{BackOn}
 use Rattle.moves.specs.declared.moves.Standing.{Standing}
 use Rattle.moves.specs.declared.moves.Standing.TheVariants.{Implied, Possible, Impossible}
 use Rattle.boxes.specs.Overlaps.{Sized, ruled, side, HoldsWord}
@@ -73,6 +76,16 @@ abbrev pub noted_side : Option Word → Direction
 noted_side None = Time
 noted_side (Some w) = side w
 
+-- a record is gone from the trail, and that is the axis of its word; or there was none
+abbrev pub NewestOff : List Trial → List Trial → Result Direction StackFault → Type 0
+NewestOff old new (Ok d) = (x : Trial) × ((old ≡ new ++ x ∷ []) × (d ≡ noted_side x.word))
+NewestOff old new (Err _) = old ≡ []
+
+-- the newest record is gone, and a bound from its axis
+abbrev pub TakenBack : List Trial → List Trial → Meanings → Meanings → Bool → Type 0
+TakenBack old new m m' true = (x : Trial) × ((old ≡ new ++ x ∷ []) × ((r : Result (Unit {0}) AxisFault) × BackOn (noted_side x.word) m r m'))
+TakenBack old new m m' false = old ≡ []
+
 -- trial k with the word
 abbrev pub worded : List Trial → ℕ → Word → Trial
 worded ts k w = record { i = (slice_index_or ts k no_trial).i; j = (slice_index_or ts k no_trial).j; word = Some w }
@@ -83,6 +96,22 @@ unworded ts k = record { i = (slice_index_or ts k no_trial).i; j = (slice_index_
 
 abbrev pub entry_of : List Size → List Trial → ℕ → Word → Entry
 entry_of sizes ts k w = ruled sizes (slice_index_or ts k no_trial).i (slice_index_or ts k no_trial).j w
+
+-- the bound of the word stands, its trial is on the trail, and the descent can go on from there
+pub record WordPut (most-time most-platform : ℕ) (sizes : List Size) (ts ts' : List Trial) (k : ℕ) (w : Word) (m m' : Meanings) (trail trail' : List Trial) (space : ℕ) : Type 0 where
+  pub axes : m' ≡ grown m (entry_of sizes ts k w)
+  pub tried : ts' ≡ slice_set ts k (worded ts k w)
+  pub noted : trail' ≡ trail ++ worded ts k w ∷ []
+  pub node : Node m' sizes ts'
+  pub room : Room most-time most-platform m' (length trail') space ts'
+  pub falls : open_count ts' + 1 ≡ open_count ts
+
+-- so it is, or nothing has changed and no arrangement has the word
+abbrev pub Tried : ℕ → ℕ → List Size → List Trial → List Trial → ℕ → Word → Meanings → Meanings → List Trial → List Trial → ℕ → Bool → Type 0
+Tried ht hp sizes ts ts' k w m m' trail trail' space true = WordPut ht hp sizes ts ts' k w m m' trail trail' space
+Tried ht hp sizes ts ts' k w m m' trail trail' space false =
+    Refuted m sizes (slice_index_or ts k no_trial).i (slice_index_or ts k no_trial).j w
+    × (m' ≡ m) × (ts' ≡ ts) × (trail' ≡ trail)
 
 -- the words in the order in which they are tried
 abbrev pub nth_word : ℕ → Word

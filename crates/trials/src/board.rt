@@ -1,22 +1,15 @@
 // The board of a descent, and what is done with one word for one pair: judged, its bound put with the trial noted, and taken back.
-ghost use Rattle.std.specs.Prelude.{◌≡◌, ℕ, ◌<◌, true, length, Some, slice_index_or};
-ghost use Rattle.stack.specs.declared.elements.Word.TheVariants.{Before};
+ghost use Rattle.std.specs.Prelude.{◌≡◌, ◌<◌, true, length, slice_index_or};
 ghost use Rattle.boxes.specs.Order.{no_trial};
-ghost use Rattle.trials.specs.Trials.{Node, PickedBelow, ToldWord, entry_of, nth_word};
+ghost use Rattle.trials.specs.Trials.{Node, PickedBelow, ToldWord, entry_of};
 ghost use Rattle.trials.specs.Boards.{BackedUp, NoWords, Entered, Fits, ImpliedAt, OnLoan, Open, Placed, Ready, Reopened};
 
-use crate::picker::rank_of;
+use crate::picker::pick;
+use crate::trying::{implied, newest_off, note, weigh};
 use axis::Axis;
-use boxes::{Direction, Entry, Place, Size, lay_out, ruling};
+use boxes::{Entry, Place, Size, lay_out};
 use moves::{Axes, Standing};
 use stack::{Stack, StackFault, Trial, Word};
-
-// The words in the order in which they are tried.
-pub fn words() -> [Word; 4]
-    ensures { (n : ℕ) → n < 4 → slice_index_or result n Before ≡ nth_word n }
-{
-    [Word::Before, Word::After, Word::Nearer, Word::Farther]
-}
 
 // Boxes of these sizes on two axes, their trials, and the trials that got a word so far, the newest last.
 // The trail is lent like the rest: of a board that owns it, what its lenders have afterwards was not proved.
@@ -69,20 +62,19 @@ impl<'a, 't, T: Axis, P: Axis> Board<'a, 't, T, P> {
     pub fn pick(&self) -> Option<usize>
         ensures { PickedBelow (length self.now.trials.now) self.now.trials.now result }
     {
-        self.trials
-            .iter()
-            .enumerate()
-            .filter(|(_, trial)| trial.word.is_none())
-            .min_by_key(|(_, trial)| rank_of(self.axes, self.sizes, **trial))
-            .map(|(k, _)| k)
+        pick(
+            self.axes.time(),
+            self.axes.platform(),
+            self.sizes,
+            self.trials,
+        )
     }
 
     // Takes back the newest trial and its bound.
     pub fn back_up(&mut self) -> Result<(), StackFault>
         ensures { BackedUp self.old self.new result }
     {
-        let trial = self.trail.pop()?;
-        let side = trial.word.map_or(Direction::Time, Direction::from);
+        let side = newest_off(self.trail)?;
         let _ = self.axes.back(side);
         Ok(())
     }
@@ -94,9 +86,14 @@ impl<'a, 't, T: Axis, P: Axis> Board<'a, 't, T, P> {
         ensures entry { result.0 ≡ entry_of self.now.sizes.now self.now.trials.now k word }
         ensures told { ToldWord self.now.axes.now self.now.sizes.now (slice_index_or self.now.trials.now k no_trial).i (slice_index_or self.now.trials.now k no_trial).j word result.1 }
     {
-        let pair = self.trials[k];
-        let entry = ruling(self.sizes, pair.i, pair.j, word);
-        (entry, self.axes.judge(entry))
+        weigh(
+            self.axes.time(),
+            self.axes.platform(),
+            self.sizes,
+            self.trials,
+            k,
+            word,
+        )
     }
 
     // Puts the bound of the word for trial k and notes the trial, or tells that no arrangement has the word.
@@ -114,12 +111,7 @@ impl<'a, 't, T: Axis, P: Axis> Board<'a, 't, T, P> {
         if let Err(_) = self.axes.put(entry) {
             return false;
         }
-        let trial = Trial {
-            word: Some(word),
-            ..self.trials[k]
-        };
-        let _ = self.trail.push(trial);
-        self.trials[k] = trial;
+        note(self.trials, self.trail, k, word);
         true
     }
 
@@ -129,12 +121,13 @@ impl<'a, 't, T: Axis, P: Axis> Board<'a, 't, T, P> {
         requires within { k < length self.now.trials.now }
         ensures { ImpliedAt self.now k result }
     {
-        for word in words() {
-            if self.weigh(k, word).1 == Standing::Implied {
-                return Some(word);
-            }
-        }
-        None
+        implied(
+            self.axes.time(),
+            self.axes.platform(),
+            self.sizes,
+            self.trials,
+            k,
+        )
     }
 
     // Trial k has no word again.

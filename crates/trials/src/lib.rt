@@ -3,5 +3,8 @@
 
 mod board;
 mod picker;
+mod trying;
 
-pub use board::{Board, words};
+pub use board::Board;
+pub use picker::pick;
+pub use trying::{back_up, enter, implied, word_at, words};

@@ -1,7 +1,10 @@
-// How urgent an open pair is: any would do, and this choice is what makes the descent fast.
+// Which pair to try next: any open pair would do, and this choice is what makes the descent fast.
+ghost use Rattle.std.specs.Prelude.{length};
+ghost use Rattle.trials.specs.Trials.{PickedBelow};
+
 use axis::Axis;
-use boxes::{Direction, Size};
-use moves::{Axes, Standing};
+use boxes::Size;
+use moves::{Standing, reach};
 use stack::Trial;
 use std::cmp::Reverse;
 
@@ -15,7 +18,7 @@ enum Class {
 
 // Among equals first the pair whose smaller box has the larger area, then whose larger box has.
 #[derive(Clone, Copy, PartialEq, Eq, PartialOrd, Ord)]
-pub(crate) struct Rank {
+struct Rank {
     class: Class,
     smaller: Reverse<u32>,
     larger: Reverse<u32>,
@@ -64,23 +67,38 @@ fn area(size: Size) -> u32 {
     u32::from(size.steps).saturating_mul(u32::from(size.metres))
 }
 
-pub(crate) fn rank_of<T: Axis, P: Axis>(axes: &Axes<T, P>, sizes: &[Size], trial: Trial) -> Rank {
+// What is known of a word and its mirrored one on one axis, where the boxes take up so much.
+fn weigh<A: Axis>(axis: &A, trial: Trial, first: u16, second: u16) -> (Standing, Standing) {
+    let out = reach(axis, trial.i, trial.j);
+    let back = reach(axis, trial.j, trial.i);
+    (standing(out, back, first), standing(back, out, second))
+}
+
+fn rank_of<T: Axis, P: Axis>(time: &T, platform: &P, sizes: &[Size], trial: Trial) -> Rank {
     let first = size_of(sizes, trial.i);
     let second = size_of(sizes, trial.j);
-    // of a word and its mirrored one
-    let weigh = |direction: Direction| {
-        let out = axes.reach(direction, trial.i, trial.j);
-        let back = axes.reach(direction, trial.j, trial.i);
-        (
-            standing(out, back, first.along(direction)),
-            standing(back, out, second.along(direction)),
-        )
-    };
-    let (before, after) = weigh(Direction::Time);
-    let (nearer, farther) = weigh(Direction::Platform);
+    let (before, after) = weigh(time, trial, first.steps, second.steps);
+    let (nearer, farther) = weigh(platform, trial, first.metres, second.metres);
     Rank {
         class: class_of([before, after, nearer, farther]),
         smaller: Reverse(area(first).min(area(second))),
         larger: Reverse(area(first).max(area(second))),
     }
+}
+
+// An open pair that no other is to be tried before, if one is open.
+pub fn pick<T: Axis, P: Axis>(
+    time: &T,
+    platform: &P,
+    sizes: &[Size],
+    trials: &[Trial],
+) -> Option<usize>
+    ensures { PickedBelow (length trials.now) trials.now result }
+{
+    trials
+        .iter()
+        .enumerate()
+        .filter(|(_, trial)| trial.word.is_none())
+        .min_by_key(|(_, trial)| rank_of(time, platform, sizes, **trial))
+        .map(|(k, _)| k)
 }

@@ -1,6 +1,6 @@
 use Rattle.std.proofs.Common.{arith}
 use Rattle.std.proofs.lemmas.Int.{ints}
-use Rattle.moves.proofs.moves.Axes.judge.Goals as goal
+use Rattle.moves.proofs.sides.judge.Goals as goal
 
 pub returns-then-reach-bound : goal.returns-then-reach-bound
 returns-then-reach-bound g c v p k =
