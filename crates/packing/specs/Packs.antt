@@ -1,11 +1,21 @@
 -- What a packing answers, and every record of both buffers afterwards.
-use Rattle.std.specs.Prelude.{◌≡◌, ℕ, List, ◌++◌, length, take, drop, replicate, Ok, Err, Result}
+use Rattle.std.specs.Prelude.{◌≡◌, ℕ, ◌≤◌, List, ◌++◌, length, take, drop, replicate, Ok, Err, Result}
 use Rattle.stack.specs.declared.elements.Trial.{Trial}
+use Rattle.axis.specs.Meaning.{lines}
 use Rattle.boxes.specs.declared.model.Size.{Size}
 use Rattle.boxes.specs.declared.model.Place.{Place}
+use Rattle.boxes.specs.Overlaps.{Sized}
 use Rattle.boxes.specs.Order.{pairs, no_trial}
 use Rattle.boxes.specs.Arranged.{Arranged, NoArrangement}
 use Rattle.moves.specs.Meanings.{Meanings}
+
+-- what a packing asks: axes with a line for each box and at most 24 bounds, and buffers that are long enough
+pub record Asked (axes : Meanings) (sizes : List Size) (places : List Place) (trials : List Trial) : Type 0 where
+  pub sized : Sized sizes
+  pub timed : lines axes.time ≡ length sizes
+  pub placed : lines axes.platform ≡ length sizes
+  pub few : (length axes.time.bounds ≤ 24) × (length axes.platform.bounds ≤ 24)
+  pub buffers : (length sizes ≤ length places) × (pairs (length sizes) ≤ length trials)
 
 module _ (axes : Meanings) (sizes : List Size) where
   -- with buffers of just the length

@@ -2,7 +2,9 @@
 #![tactic(auto)]
 
 mod descent;
+mod lent;
 mod packs;
 
+pub use lent::pack_lent;
 pub use moves::{Axes, Standing, back_on, put_on};
 pub use packs::{NoArrangement, pack};
