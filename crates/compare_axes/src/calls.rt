@@ -1,5 +1,5 @@
 // The calls of an axis and what they tell as values, so that one list of calls runs on every side.
-ghost use Rattle.std.specs.Prelude.{◌≡◌, ◌<◌, slice_index_or};
+ghost use Rattle.std.specs.Prelude.{◌≡◌, ◌<◌, slice_index_or, Ok, Err};
 
 use axis::{Axis, AxisFault, Bound};
 use std::array;
@@ -41,13 +41,26 @@ pub fn tightests_from(p: u8) -> [Call; LINES]
     all_lines().map(|q| Call::Tightest(p, q))
 }
 
+// What a call answers that tells nothing more.
+fn done(answer: Result<(), AxisFault>) -> Answer
+    ensures { elim answer [ Ok _ ↦ result ≡ Ok Told.Done | Err f ↦ result ≡ Err f ] }
+{
+    answer?;
+    Ok(Told::Done)
+}
+
+fn difference(answer: Result<i16, AxisFault>) -> Answer
+    ensures { elim answer [ Ok t ↦ result ≡ Ok (Told.Difference t) | Err f ↦ result ≡ Err f ] }
+{
+    Ok(Told::Difference(i32::from(answer?)))
+}
+
 pub fn perform<A: Axis>(axis: &mut A, call: &Call) -> Answer {
     match call {
-        Call::Reset { lows, highs } => axis.reset(lows.as_slice(), highs.as_slice())?,
-        Call::Put(bound) => axis.put(*bound)?,
-        Call::Back => axis.back()?,
-        Call::Tightest(p, q) => return Ok(Told::Difference(i32::from(axis.tightest(*p, *q)?))),
-        Call::Count => return Ok(Told::Count(axis.count())),
+        Call::Reset { lows, highs } => done(axis.reset(lows.as_slice(), highs.as_slice())),
+        Call::Put(bound) => done(axis.put(*bound)),
+        Call::Back => done(axis.back()),
+        Call::Tightest(p, q) => difference(axis.tightest(*p, *q)),
+        Call::Count => Ok(Told::Count(axis.count())),
     }
-    Ok(Told::Done)
 }
